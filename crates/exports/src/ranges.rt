@@ -1,0 +1,137 @@
+// The range and frame calls: document 01, "Ranges" and "Frames".
+ghost use Rattle.memory_structs.specs.Range.{range};
+ghost use Rattle.memory_structs.specs.RangeCalls.{sizeInFrames, containsRange, overlapOf, toExtended, fromPhysAddr, offsetOfAddress, addressAtOffset};
+ghost use Rattle.memory_structs.specs.FrameCalls.{mergeOf, splitRange, splitAt};
+ghost use Rattle.exports.specs.Words.{Written, noWords, numberWords, rangeWords, splitWords, halvesWords};
+use crate::answers::put_halves;
+use crate::answers::put_number;
+use crate::answers::put_range;
+use crate::answers::put_split;
+use crate::answers::put_test;
+use memory_structs::FrameRange;
+
+// out: yes, size.
+#[no_mangle]
+pub extern "C" fn likhmout_size_in_frames(start: u64, end: u64, out: &mut [u64; 2]) -> u64
+    ensures { λ r. ⌜ Written numberWords (sizeInFrames (range start end)) r (now (out .exit)) ⌝ }
+{
+    put_number(FrameRange::new(start, end).size_in_frames(), out)
+}
+
+// out: yes or no.
+#[no_mangle]
+pub extern "C" fn likhmout_contains_range(
+    start: u64,
+    end: u64,
+    other_start: u64,
+    other_end: u64,
+    out: &mut [u64; 1],
+) -> u64
+    ensures { λ r. ⌜ Written noWords (containsRange (range start end) (range «other_start» «other_end»)) r (now (out .exit)) ⌝ }
+{
+    put_test(
+        FrameRange::new(start, end).contains_range(FrameRange::new(other_start, other_end)),
+        out,
+    )
+}
+
+// out: yes or no, start, end.
+#[no_mangle]
+pub extern "C" fn likhmout_overlap(
+    start: u64,
+    end: u64,
+    other_start: u64,
+    other_end: u64,
+    out: &mut [u64; 3],
+) -> u64
+    ensures { λ r. ⌜ Written rangeWords (overlapOf (range start end) (range «other_start» «other_end»)) r (now (out .exit)) ⌝ }
+{
+    put_range(
+        FrameRange::new(start, end).overlap(FrameRange::new(other_start, other_end)),
+        out,
+    )
+}
+
+// out: yes, start, end.
+#[no_mangle]
+pub extern "C" fn likhmout_to_extended(start: u64, end: u64, frame: u64, out: &mut [u64; 3]) -> u64
+    ensures { λ r. ⌜ Written rangeWords (toExtended (range start end) frame) r (now (out .exit)) ⌝ }
+{
+    put_range(FrameRange::new(start, end).to_extended(frame), out)
+}
+
+// out: yes, start, end.
+#[no_mangle]
+pub extern "C" fn likhmout_from_phys_addr(address: u64, bytes: u64, out: &mut [u64; 3]) -> u64
+    ensures { λ r. ⌜ Written rangeWords (fromPhysAddr address bytes) r (now (out .exit)) ⌝ }
+{
+    put_range(FrameRange::from_phys_addr(address, bytes), out)
+}
+
+// out: yes or no, offset.
+#[no_mangle]
+pub extern "C" fn likhmout_offset_of_address(
+    start: u64,
+    end: u64,
+    address: u64,
+    out: &mut [u64; 2],
+) -> u64
+    ensures { λ r. ⌜ Written numberWords (offsetOfAddress (range start end) address) r (now (out .exit)) ⌝ }
+{
+    put_number(FrameRange::new(start, end).offset_of_address(address), out)
+}
+
+// out: yes or no, address.
+#[no_mangle]
+pub extern "C" fn likhmout_address_at_offset(
+    start: u64,
+    end: u64,
+    offset: u64,
+    out: &mut [u64; 2],
+) -> u64
+    ensures { λ r. ⌜ Written numberWords (addressAtOffset (range start end) offset) r (now (out .exit)) ⌝ }
+{
+    put_number(FrameRange::new(start, end).address_at_offset(offset), out)
+}
+
+// out: yes or no, start, end.
+#[no_mangle]
+pub extern "C" fn likhmout_merge(
+    start: u64,
+    end: u64,
+    other_start: u64,
+    other_end: u64,
+    out: &mut [u64; 3],
+) -> u64
+    ensures { λ r. ⌜ Written rangeWords (mergeOf (range start end) (range «other_start» «other_end»)) r (now (out .exit)) ⌝ }
+{
+    put_range(
+        FrameRange::new(start, end).merge(FrameRange::new(other_start, other_end)),
+        out,
+    )
+}
+
+// out: yes or no, then before, middle and after, each as start, end.
+#[no_mangle]
+pub extern "C" fn likhmout_split_range(
+    start: u64,
+    end: u64,
+    extract_start: u64,
+    extract_end: u64,
+    out: &mut [u64; 7],
+) -> u64
+    ensures { λ r. ⌜ Written splitWords (splitRange (range start end) (range «extract_start» «extract_end»)) r (now (out .exit)) ⌝ }
+{
+    put_split(
+        FrameRange::new(start, end).split_range(FrameRange::new(extract_start, extract_end)),
+        out,
+    )
+}
+
+// out: yes or no, then first and second half, each as start, end.
+#[no_mangle]
+pub extern "C" fn likhmout_split_at(start: u64, end: u64, frame: u64, out: &mut [u64; 5]) -> u64
+    ensures { λ r. ⌜ Written halvesWords (splitAt (range start end) frame) r (now (out .exit)) ⌝ }
+{
+    put_halves(FrameRange::new(start, end).split_at(frame), out)
+}

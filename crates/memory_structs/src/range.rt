@@ -1,0 +1,232 @@
+// A range of frames, and the calls on it: document 01, "Ranges".
+ghost use mathlib.Core.Path.{_≡_};
+ghost use mathlib.Core.Bool.{false, not, _&&_, _||_};
+ghost use Prim.Native.Nat.{_+_, _≤_, min, max};
+ghost use lib.Dec.{ltb};
+ghost use Rattle.memory_structs.specs.Range.{range, isEmpty, size, aboveTop, inside, framesBelow, framesAbove};
+ghost use Rattle.memory_structs.specs.Answers.{shownTest, shownNumber, shownRange};
+ghost use Rattle.memory_structs.specs.RangeCalls.{sizeInFrames, containsRange, overlapOf, toExtended, fromPhysAddr, offsetOfAddress, addressAtOffset};
+
+// Bytes in a frame.
+const FRAME_SIZE: u64 = 4096;
+
+// Addresses are below 2^40, and no call takes more bytes than that.
+const ADDRESS_LIMIT: u64 = 1099511627776;
+
+// The frames from `start` to `end`, both included; none where `start` is above `end`.
+pub struct FrameRange {
+    pub start: u64,
+    pub end: u64,
+}
+
+// What a test answers. `OutOfBounds` is document 01's number 2 in this and the other answers.
+pub enum YesNo {
+    OutOfBounds,
+    No,
+    Yes,
+}
+
+// What a call that looks for a number answers.
+pub enum MaybeNumber {
+    OutOfBounds,
+    Nothing,
+    Number(u64),
+}
+
+// What a call that looks for a range answers.
+pub enum MaybeRange {
+    OutOfBounds,
+    Nothing,
+    Range(FrameRange),
+}
+
+impl FrameRange {
+    // What stands where there is no range.
+    pub const EMPTY: FrameRange = FrameRange { start: 1, end: 0 };
+
+    // The highest frame, 2^28 - 1.
+    pub const TOP: u64 = 268435455;
+
+    // Any two numbers make a range: each call tests the bound by itself.
+    pub fn new(start: u64, end: u64) -> FrameRange
+        ensures { λ r. ⌜ r ≡ range start end ⌝ }
+    {
+        FrameRange { start, end }
+    }
+
+    pub fn is_empty(self) -> bool
+        ensures { λ r. ⌜ r ≡ isEmpty self ⌝ }
+    {
+        self.end < self.start
+    }
+
+    // Whether an end lies above the top; of an empty range too.
+    pub fn is_above_top(self) -> bool
+        ensures { λ r. ⌜ r ≡ aboveTop self ⌝ }
+    {
+        Self::TOP < highest(self.start, self.end)
+    }
+
+    pub fn size_in_frames(self) -> MaybeNumber
+        ensures { λ r. ⌜ shownNumber r ≡ sizeInFrames self ⌝ }
+    {
+        if self.is_above_top() {
+            return MaybeNumber::OutOfBounds;
+        }
+        MaybeNumber::Number(size_below_top(self))
+    }
+
+    pub fn contains_range(self, other: FrameRange) -> YesNo
+        ensures { λ r. ⌜ shownTest r ≡ containsRange self other ⌝ }
+    {
+        if any_above_top(self, other) {
+            return YesNo::OutOfBounds;
+        }
+        if holds(self, other) {
+            YesNo::Yes
+        } else {
+            YesNo::No
+        }
+    }
+
+    pub fn overlap(self, other: FrameRange) -> MaybeRange
+        ensures { λ r. ⌜ shownRange r ≡ overlapOf self other ⌝ }
+    {
+        if any_above_top(self, other) {
+            return MaybeRange::OutOfBounds;
+        }
+        let start = highest(self.start, other.start);
+        let end = lowest(self.end, other.end);
+        if end < start {
+            return MaybeRange::Nothing;
+        }
+        MaybeRange::Range(FrameRange::new(start, end))
+    }
+
+    // The range with `frame` in it, and whatever lies between.
+    pub fn to_extended(self, frame: u64) -> MaybeRange
+        ensures { λ r. ⌜ shownRange r ≡ toExtended self frame ⌝ }
+    {
+        if self.is_above_top() {
+            return MaybeRange::OutOfBounds;
+        }
+        if Self::TOP < frame {
+            return MaybeRange::OutOfBounds;
+        }
+        if self.is_empty() {
+            return MaybeRange::Range(FrameRange::new(frame, frame));
+        }
+        MaybeRange::Range(FrameRange::new(lowest(self.start, frame), highest(self.end, frame)))
+    }
+
+    // The frames that `bytes` bytes from `address` on touch.
+    pub fn from_phys_addr(address: u64, bytes: u64) -> MaybeRange
+        ensures { λ r. ⌜ shownRange r ≡ fromPhysAddr address bytes ⌝ }
+    {
+        if ADDRESS_LIMIT <= address {
+            return MaybeRange::OutOfBounds;
+        }
+        if ADDRESS_LIMIT < bytes {
+            return MaybeRange::OutOfBounds;
+        }
+        if bytes == 0 {
+            return MaybeRange::Range(FrameRange::EMPTY);
+        }
+        // The last byte, not one past it: the end is included.
+        let end = (address + (bytes - 1)) / FRAME_SIZE;
+        if Self::TOP < end {
+            return MaybeRange::OutOfBounds;
+        }
+        MaybeRange::Range(FrameRange::new(address / FRAME_SIZE, end))
+    }
+
+    pub fn offset_of_address(self, address: u64) -> MaybeNumber
+        ensures { λ r. ⌜ shownNumber r ≡ offsetOfAddress self address ⌝ }
+    {
+        if self.is_above_top() {
+            return MaybeNumber::OutOfBounds;
+        }
+        if ADDRESS_LIMIT <= address {
+            return MaybeNumber::OutOfBounds;
+        }
+        let frame = address / FRAME_SIZE;
+        if frame < self.start {
+            return MaybeNumber::Nothing;
+        }
+        if self.end < frame {
+            return MaybeNumber::Nothing;
+        }
+        MaybeNumber::Number(address - self.start * FRAME_SIZE)
+    }
+
+    pub fn address_at_offset(self, offset: u64) -> MaybeNumber
+        ensures { λ r. ⌜ shownNumber r ≡ addressAtOffset self offset ⌝ }
+    {
+        if self.is_above_top() {
+            return MaybeNumber::OutOfBounds;
+        }
+        if size_below_top(self) * FRAME_SIZE <= offset {
+            return MaybeNumber::Nothing;
+        }
+        MaybeNumber::Number(self.start * FRAME_SIZE + offset)
+    }
+}
+
+// The size of a range whose end is at or below the top, so that the sum fits.
+fn size_below_top(r: FrameRange) -> u64
+    requires { ⌜ aboveTop r ≡ false ⌝ }
+    ensures { λ n. ⌜ n ≡ size r ⌝ }
+{
+    if r.is_empty() { 0 } else { r.end - r.start + 1 }
+}
+
+pub(crate) fn any_above_top(a: FrameRange, b: FrameRange) -> bool
+    ensures { λ r. ⌜ r ≡ (aboveTop a || aboveTop b) ⌝ }
+{
+    a.is_above_top() || b.is_above_top()
+}
+
+// Whether `inner` has a frame and all of its frames are in `outer`.
+pub(crate) fn holds(outer: FrameRange, inner: FrameRange) -> bool
+    ensures { λ r. ⌜ r ≡ (not (isEmpty inner) && inside outer inner) ⌝ }
+{
+    if inner.is_empty() {
+        return false;
+    }
+    if inner.start < outer.start {
+        return false;
+    }
+    inner.end <= outer.end
+}
+
+// The frames of the range below `frame`.
+pub(crate) fn below(r: FrameRange, frame: u64) -> FrameRange
+    ensures { λ part. ⌜ part ≡ framesBelow r frame ⌝ }
+{
+    if r.start < frame {
+        return FrameRange::new(r.start, frame - 1);
+    }
+    FrameRange::EMPTY
+}
+
+// The frames of the range above `frame`.
+pub(crate) fn above(r: FrameRange, frame: u64) -> FrameRange
+    ensures { λ part. ⌜ part ≡ framesAbove r frame ⌝ }
+{
+    if frame < r.end {
+        return FrameRange::new(frame + 1, r.end);
+    }
+    FrameRange::EMPTY
+}
+
+fn lowest(a: u64, b: u64) -> u64
+    ensures { λ r. ⌜ r ≡ min a b ⌝ }
+{
+    if a < b { a } else { b }
+}
+
+fn highest(a: u64, b: u64) -> u64
+    ensures { λ r. ⌜ r ≡ max a b ⌝ }
+{
+    if a < b { b } else { a }
+}
