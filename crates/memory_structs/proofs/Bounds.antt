@@ -1,20 +1,12 @@
--- What it means that nothing lies above the top.
+-- What the tests of document 01's bound say in numbers.
 use Prim.Native.Nat.{ℕ, _≤_}
 use native.Mathlib.Omega.{arith}
-use mathlib.Core.Path.{_≡_, refl}
-use mathlib.Core.Bool.{Bool, true, false, _||_}
+use mathlib.Core.Path.{_≡_}
+use mathlib.Core.Bool.{Bool, false, _||_}
 use borrow.Author.Tests.{ltb-false}
 use Rattle.memory_structs.specs.Range.{top, range, aboveTop}
 use Rattle.memory_structs.specs.declared.range.FrameRange.{FrameRange}
-
--- where neither of two tests holds, the first does not, and the second does not
-pub neither-first : (a b : Bool) → (a || b) ≡ false → a ≡ false
-neither-first true b e = e
-neither-first false b e = refl
-
-pub neither-second : (a b : Bool) → (a || b) ≡ false → b ≡ false
-neither-second true b e = let w : _≡_ {A = ℕ} 0 1 = cc in absurd (omega arith)
-neither-second false b e = e
+use Rattle.memory_structs.proofs.Bools.{neither-first, neither-second}
 
 -- both ends of a range that is not above the top are at or below it
 pub record Within (r : FrameRange) : Type 0 where

@@ -1,13 +1,8 @@
--- `FrameRange::address_at_offset`
-use Prim.Native.Nat.{_*_, _≤_, _<_}
+-- `address_at_offset`: 2, or where the range has so many bytes, its start and the offset.
 use native.Mathlib.Omega.{arith}
-use mathlib.Core.Path.{sym, _∙_}
-use borrow.Author.Tests.{lt-ltb, le-ltb}
-use Rattle.memory_structs.specs.Range.{size}
-use Rattle.memory_structs.proofs.Bounds.{within}
-use Rattle.memory_structs.specs.RangeCalls.{addressAtOffset}
-use Rattle.memory_structs.proofs.Bounds.{within}
 use borrow.Author.Needs.{needs}
+use Rattle.memory_structs.proofs.Bounds.{within}
+use Rattle.memory_structs.proofs.RangeCases.{address-refused, address-past, address-shown}
 use Rattle.memory_structs.proofs.range.FrameRange.address_at_offset.Statement.{statement}
 use Rattle.memory_structs.proofs.range.FrameRange.address_at_offset.Tie as tie
 
@@ -15,34 +10,25 @@ is-above-top-requires : tie.Need-is-above-top-requires
 is-above-top-requires c κs = search needs
 
 returns : tie.Need-returns
-unfolding addressAtOffset
-returns c = simp (sym (c .before .is-above-top .ensures) ∙ c .if1 .taken)
+returns c = address-refused _ _ (cc)
 
 size-below-top-requires : tie.Need-size-below-top-requires
-size-below-top-requires c κs = sym (c .before .is-above-top .ensures) ∙ c .if1 .left
+size-below-top-requires c κs = cc
 
 mul-if2 : tie.Need-mul-if2
-mul-if2 c = omega (arith, within (c .before .before .before .args .self) (sym (c .before .before .is-above-top .ensures) ∙ c .before .if1 .left))
+mul-if2 c = let w = within (c .before .before .before .args .self) (cc) in omega arith
 
 returns-2 : tie.Need-returns-2
-unfolding addressAtOffset
-returns-2 c =
-    let r = c .before .before .before .before .args .self in
-    let past : size r * 4096 ≤ c .before .before .before .before .args .offset = omega arith in
-    simp (sym (c .before .before .before .is-above-top .ensures) ∙ c .before .before .if1 .left, le-ltb _ _ past)
+returns-2 c = address-past _ _ (cc) (omega arith)
 
 mul-t4 : tie.Need-mul-t4
-mul-t4 c = omega (arith, within (c .before .before .before .before .before .args .self) (sym (c .before .before .before .before .is-above-top .ensures) ∙ c .before .before .before .if1 .left))
+mul-t4 c = let w = within (c .before .before .before .before .before .args .self) (cc) in omega arith
 
 add-t5 : tie.Need-add-t5
-add-t5 c = omega (arith, within (c .before .before .before .before .before .args .self) (sym (c .before .before .before .before .is-above-top .ensures) ∙ c .before .before .before .if1 .left))
+add-t5 c = let w = within (c .before .before .before .before .before .args .self) (cc) in omega arith
 
 returns-3 : tie.Need-returns-3
-unfolding addressAtOffset
-returns-3 c =
-    let r = c .before .before .before .before .before .args .self in
-    let inside : c .before .before .before .before .before .args .offset < size r * 4096 = omega arith in
-    simp (sym (c .before .before .before .before .is-above-top .ensures) ∙ c .before .before .before .if1 .left, lt-ltb _ _ inside)
+returns-3 c = address-shown _ _ (cc) (omega arith)
 
 pub address-at-offset-spec : {M : Type 1} → statement M
 address-at-offset-spec =

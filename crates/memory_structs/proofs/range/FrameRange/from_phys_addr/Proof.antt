@@ -1,26 +1,20 @@
--- `FrameRange::from_phys_addr`
-use Prim.Native.Nat.{_+_, _-_, _/_, _≤_, _<_, max}
+-- `from_phys_addr`: 2 for each bound in turn, or the frames from the first byte's to the last byte's.
 use native.Mathlib.Omega.{arith}
-use mathlib.Core.Path.{sym, ap, _∙_}
-use borrow.Author.Tests.{le-leb, lt-leb, lt-ltb, le-ltb, eq-eqb, ne-eqb}
-use Rattle.memory_structs.specs.Answers.{yes}
-use Rattle.memory_structs.specs.Range.{top, touched}
-use Rattle.memory_structs.specs.RangeCalls.{fromPhysAddr}
 use borrow.Author.Needs.{needs}
+use mathlib.Core.Path.{ap, _∙_}
+use Rattle.memory_structs.specs.Answers.{yes}
+use Rattle.memory_structs.proofs.RangeCases.{phys-refused-address, phys-refused-bytes, phys-none, phys-refused-end, phys-some}
 use Rattle.memory_structs.proofs.range.FrameRange.from_phys_addr.Statement.{statement}
 use Rattle.memory_structs.proofs.range.FrameRange.from_phys_addr.Tie as tie
 
 returns : tie.Need-returns
-unfolding fromPhysAddr touched
-returns c = simp (le-leb _ _ (c .if1 .taken))
+returns c = phys-refused-address _ _ (omega arith)
 
 returns-2 : tie.Need-returns-2
-unfolding fromPhysAddr touched
-returns-2 c = simp (lt-leb _ _ (c .before .if1 .left), lt-ltb _ _ (c .if2 .taken))
+returns-2 c = phys-refused-bytes _ _ (omega arith) (omega arith)
 
 returns-3 : tie.Need-returns-3
-unfolding fromPhysAddr touched
-returns-3 c = simp (lt-leb _ _ (c .before .before .if1 .left), le-ltb _ _ (c .before .if2 .left), eq-eqb _ _ (c .if3 .taken))
+returns-3 c = phys-none _ _ (omega arith) (omega arith) (cc)
 
 sub-end : tie.Need-sub-end
 sub-end c = search needs
@@ -29,23 +23,13 @@ add-end : tie.Need-add-end
 add-end c = search needs
 
 returns-4 : tie.Need-returns-4
-unfolding fromPhysAddr touched
-returns-4 c =
-    let a = c .before .before .before .before .args .address in
-    let n = c .before .before .before .before .args .bytes in
-    let past : top < max (a / 4096) ((a + (n - 1)) / 4096) = omega arith in
-    simp (lt-leb _ _ (c .before .before .before .if1 .left), le-ltb _ _ (c .before .before .if2 .left), ne-eqb _ _ (c .before .if3 .left), lt-ltb _ _ past)
+returns-4 c = phys-refused-end _ _ (omega arith) (omega arith) (λ e. omega arith) (omega arith)
 
 new-requires : tie.Need-new-requires
 new-requires c κs = search needs
 
 returns-5 : tie.Need-returns-5
-unfolding fromPhysAddr touched
-returns-5 c =
-    let a = c .before .before .before .before .before .args .address in
-    let n = c .before .before .before .before .before .args .bytes in
-    let fits : max (a / 4096) ((a + (n - 1)) / 4096) ≤ top = omega arith in
-    simp (lt-leb _ _ (c .before .before .before .before .if1 .left), le-ltb _ _ (c .before .before .before .if2 .left), ne-eqb _ _ (c .before .before .if3 .left), le-ltb _ _ fits) (ap yes (c .new .ensures))
+returns-5 c = ap yes (c .new .ensures) ∙ phys-some _ _ (omega arith) (omega arith) (λ e. omega arith) (omega arith)
 
 pub from-phys-addr-spec : {M : Type 1} → statement M
 from-phys-addr-spec =

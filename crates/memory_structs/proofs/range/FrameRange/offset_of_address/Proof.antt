@@ -1,11 +1,11 @@
--- `FrameRange::offset_of_address`
+-- `offset_of_address`: 2, or where the range has the address's frame, the bytes from its start.
 use native.Mathlib.Omega.{arith}
-use mathlib.Core.Path.{sym, _∙_}
-use borrow.Author.Tests.{le-leb, lt-leb}
-use Rattle.memory_structs.proofs.Bounds.{within}
-use Rattle.memory_structs.specs.RangeCalls.{offsetOfAddress}
-use Rattle.memory_structs.proofs.Bounds.{within}
 use borrow.Author.Needs.{needs}
+use mathlib.Core.Path.{_≡_}
+use mathlib.Core.Bool.{false}
+use Rattle.memory_structs.specs.Range.{aboveTop}
+use Rattle.memory_structs.proofs.Bounds.{within}
+use Rattle.memory_structs.proofs.RangeCases.{offset-refused, offset-refused-address, offset-below, offset-above, offset-shown}
 use Rattle.memory_structs.proofs.range.FrameRange.offset_of_address.Statement.{statement}
 use Rattle.memory_structs.proofs.range.FrameRange.offset_of_address.Tie as tie
 
@@ -13,30 +13,25 @@ is-above-top-requires : tie.Need-is-above-top-requires
 is-above-top-requires c κs = search needs
 
 returns : tie.Need-returns
-unfolding offsetOfAddress
-returns c = simp (sym (c .before .is-above-top .ensures) ∙ c .if1 .taken)
+returns c = offset-refused _ _ (cc)
 
 returns-2 : tie.Need-returns-2
-unfolding offsetOfAddress
-returns-2 c = simp (sym (c .before .before .is-above-top .ensures) ∙ c .before .if1 .left, le-leb _ _ (c .if2 .taken))
+returns-2 c = offset-refused-address _ _ (cc) (omega arith)
 
 returns-3 : tie.Need-returns-3
-unfolding offsetOfAddress
-returns-3 c = simp (sym (c .before .before .before .before .is-above-top .ensures) ∙ c .before .before .before .if1 .left, lt-leb _ _ (c .before .before .if2 .left), lt-leb _ _ (c .if3 .taken))
+returns-3 c = offset-below _ _ (cc) (omega arith) (omega arith)
 
 returns-4 : tie.Need-returns-4
-unfolding offsetOfAddress
-returns-4 c = simp (sym (c .before .before .before .before .before .before .is-above-top .ensures) ∙ c .before .before .before .before .before .if1 .left, lt-leb _ _ (c .before .before .before .before .if2 .left), le-leb _ _ (c .before .before .if3 .left), lt-leb _ _ (c .if4 .taken))
+returns-4 c = offset-above _ _ (cc) (omega arith) (omega arith) (omega arith)
 
 mul-t6 : tie.Need-mul-t6
-mul-t6 c = omega (arith, within (c .before .before .before .before .before .before .before .before .args .self) (sym (c .before .before .before .before .before .before .before .is-above-top .ensures) ∙ c .before .before .before .before .before .before .if1 .left))
+mul-t6 c = let w = within (c .before .before .before .before .before .before .before .before .args .self) (cc) in omega arith
 
 sub-t7 : tie.Need-sub-t7
 sub-t7 c = omega arith
 
 returns-5 : tie.Need-returns-5
-unfolding offsetOfAddress
-returns-5 c = simp (sym (c .before .before .before .before .before .before .before .is-above-top .ensures) ∙ c .before .before .before .before .before .before .if1 .left, lt-leb _ _ (c .before .before .before .before .before .if2 .left), le-leb _ _ (c .before .before .before .if3 .left), le-leb _ _ (c .before .if4 .left))
+returns-5 c = offset-shown _ _ (cc) (omega arith) (omega arith) (omega arith)
 
 pub offset-of-address-spec : {M : Type 1} → statement M
 offset-of-address-spec =

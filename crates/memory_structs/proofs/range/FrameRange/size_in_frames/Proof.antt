@@ -1,8 +1,8 @@
--- `FrameRange::size_in_frames`
-use mathlib.Core.Path.{sym, ap, _∙_}
-use Rattle.memory_structs.specs.Answers.{yes}
-use Rattle.memory_structs.specs.RangeCalls.{sizeInFrames}
+-- `size_in_frames`: 2, or the size of a range whose end is at or below the top.
 use borrow.Author.Needs.{needs}
+use mathlib.Core.Path.{ap, _∙_}
+use Rattle.memory_structs.specs.Answers.{yes}
+use Rattle.memory_structs.proofs.RangeCases.{size-refused, size-shown}
 use Rattle.memory_structs.proofs.range.FrameRange.size_in_frames.Statement.{statement}
 use Rattle.memory_structs.proofs.range.FrameRange.size_in_frames.Tie as tie
 
@@ -10,15 +10,13 @@ is-above-top-requires : tie.Need-is-above-top-requires
 is-above-top-requires c κs = search needs
 
 returns : tie.Need-returns
-unfolding sizeInFrames
-returns c = simp (sym (c .before .is-above-top .ensures) ∙ c .if1 .taken)
+returns c = size-refused _ (cc)
 
 size-below-top-requires : tie.Need-size-below-top-requires
-size-below-top-requires c κs = sym (c .before .is-above-top .ensures) ∙ c .if1 .left
+size-below-top-requires c κs = cc
 
 returns-2 : tie.Need-returns-2
-unfolding sizeInFrames
-returns-2 c = simp (sym (c .before .before .is-above-top .ensures) ∙ c .before .if1 .left) (ap yes (c .size-below-top .ensures))
+returns-2 c = ap yes (c .size-below-top .ensures) ∙ size-shown _ (cc)
 
 pub size-in-frames-spec : {M : Type 1} → statement M
 size-in-frames-spec =

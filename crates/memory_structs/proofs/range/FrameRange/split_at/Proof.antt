@@ -1,12 +1,10 @@
--- `FrameRange::split_at`
+-- `split_at`: 2, no for an empty range or a frame outside, or the frames below the frame and those from it on.
 use native.Mathlib.Omega.{arith}
-use mathlib.Core.Path.{sym, ap, _∙_}
-use borrow.Author.Tests.{lt-ltb, le-ltb, le-leb, lt-leb, eq-eqb, ne-eqb}
+use borrow.Author.Needs.{needs}
+use mathlib.Core.Path.{_∙_}
 use Rattle.memory_structs.specs.Answers.{yes}
 use Rattle.memory_structs.proofs.Bounds.{within}
-use Rattle.memory_structs.specs.FrameCalls.{splitAt}
-use Rattle.memory_structs.proofs.Bounds.{within}
-use borrow.Author.Needs.{needs}
+use Rattle.memory_structs.proofs.FrameCases.{halves-refused, halves-refused-frame, halves-empty, halves-at-start, halves-at-end, halves-below, halves-above, halves-within}
 use Rattle.memory_structs.proofs.range.FrameRange.split_at.Statement.{statement}
 use Rattle.memory_structs.proofs.range.FrameRange.split_at.Tie as tie
 
@@ -14,38 +12,31 @@ is-above-top-requires : tie.Need-is-above-top-requires
 is-above-top-requires c κs = search needs
 
 returns : tie.Need-returns
-unfolding splitAt
-returns c = simp (sym (c .before .is-above-top .ensures) ∙ c .if1 .taken)
+returns c = halves-refused _ _ (cc)
 
 returns-2 : tie.Need-returns-2
-unfolding splitAt
-returns-2 c = simp (sym (c .before .before .is-above-top .ensures) ∙ c .before .if1 .left, lt-ltb _ _ (c .if2 .taken))
+returns-2 c = halves-refused-frame _ _ (cc) (omega arith)
 
 is-empty-requires : tie.Need-is-empty-requires
 is-empty-requires c κs = search needs
 
 returns-3 : tie.Need-returns-3
-unfolding splitAt
-returns-3 c = simp (sym (c .before .before .before .before .is-above-top .ensures) ∙ c .before .before .before .if1 .left, le-ltb _ _ (c .before .before .if2 .left), sym (c .before .is-empty .ensures) ∙ c .if3 .taken)
+returns-3 c = halves-empty _ _ (cc) (omega arith) (cc)
 
 returns-4 : tie.Need-returns-4
-unfolding splitAt
-returns-4 c = simp (sym (c .before .before .before .before .before .before .is-above-top .ensures) ∙ c .before .before .before .before .before .if1 .left, le-ltb _ _ (c .before .before .before .before .if2 .left), sym (c .before .before .before .is-empty .ensures) ∙ c .before .before .if3 .left, eq-eqb _ _ (c .if4 .taken))
+returns-4 c = halves-at-start _ _ (cc) (omega arith) (cc) (cc)
 
 add-if5 : tie.Need-add-if5
-add-if5 c = omega (arith, within (c .before .before .before .before .before .before .before .before .args .self) (sym (c .before .before .before .before .before .before .before .is-above-top .ensures) ∙ c .before .before .before .before .before .before .if1 .left))
+add-if5 c = let w = within (c .before .before .before .before .before .before .before .before .args .self) (cc) in omega arith
 
 returns-5 : tie.Need-returns-5
-unfolding splitAt
-returns-5 c = simp (sym (c .before .before .before .before .before .before .before .before .is-above-top .ensures) ∙ c .before .before .before .before .before .before .before .if1 .left, le-ltb _ _ (c .before .before .before .before .before .before .if2 .left), sym (c .before .before .before .before .before .is-empty .ensures) ∙ c .before .before .before .before .if3 .left, ne-eqb _ _ (c .before .before .if4 .left), eq-eqb _ _ (c .if5 .taken))
+returns-5 c = halves-at-end _ _ (cc) (omega arith) (cc) (λ e. omega arith) (cc)
 
 returns-6 : tie.Need-returns-6
-unfolding splitAt
-returns-6 c = simp (sym (c .before .before .before .before .before .before .before .before .before .before .is-above-top .ensures) ∙ c .before .before .before .before .before .before .before .before .before .if1 .left, le-ltb _ _ (c .before .before .before .before .before .before .before .before .if2 .left), sym (c .before .before .before .before .before .before .before .is-empty .ensures) ∙ c .before .before .before .before .before .before .if3 .left, ne-eqb _ _ (c .before .before .before .before .if4 .left), ne-eqb _ _ (c .before .before .if5 .left), lt-leb _ _ (c .if6 .taken))
+returns-6 c = halves-below _ _ (cc) (omega arith) (cc) (λ e. omega arith) (λ e. omega arith) (omega arith)
 
 returns-7 : tie.Need-returns-7
-unfolding splitAt
-returns-7 c = simp (sym (c .before .before .before .before .before .before .before .before .before .before .before .before .is-above-top .ensures) ∙ c .before .before .before .before .before .before .before .before .before .before .before .if1 .left, le-ltb _ _ (c .before .before .before .before .before .before .before .before .before .before .if2 .left), sym (c .before .before .before .before .before .before .before .before .before .is-empty .ensures) ∙ c .before .before .before .before .before .before .before .before .if3 .left, ne-eqb _ _ (c .before .before .before .before .before .before .if4 .left), ne-eqb _ _ (c .before .before .before .before .if5 .left), le-leb _ _ (c .before .before .if6 .left), lt-leb _ _ (c .if7 .taken))
+returns-7 c = halves-above _ _ (cc) (omega arith) (cc) (λ e. omega arith) (λ e. omega arith) (omega arith) (omega arith)
 
 sub-new : tie.Need-sub-new
 sub-new c = search needs
@@ -57,9 +48,7 @@ new-requires-2 : tie.Need-new-requires-2
 new-requires-2 c κs = search needs
 
 returns-8 : tie.Need-returns-8
-unfolding splitAt
-returns-8 c = simp (sym (c .before .before .before .before .before .before .before .before .before .before .before .before .before .before .is-above-top .ensures) ∙ c .before .before .before .before .before .before .before .before .before .before .before .before .before .if1 .left, le-ltb _ _ (c .before .before .before .before .before .before .before .before .before .before .before .before .if2 .left), sym (c .before .before .before .before .before .before .before .before .before .before .before .is-empty .ensures) ∙ c .before .before .before .before .before .before .before .before .before .before .if3 .left, ne-eqb _ _ (c .before .before .before .before .before .before .before .before .if4 .left), ne-eqb _ _ (c .before .before .before .before .before .before .if5 .left), le-leb _ _ (c .before .before .before .before .if6 .left), le-leb _ _ (c .before .before .if7 .left))
-    (λ i. yes (record { first = c .before .new .ensures i; second = c .new2 .ensures i }))
+returns-8 c = (λ i. yes (record { first = c .before .new .ensures i; second = c .new2 .ensures i })) ∙ halves-within _ _ (cc) (omega arith) (cc) (λ e. omega arith) (λ e. omega arith) (omega arith) (omega arith)
 
 pub split-at-spec : {M : Type 1} → statement M
 split-at-spec =

@@ -1,8 +1,8 @@
--- `FrameRange::split_range`
-use mathlib.Core.Path.{sym, ap, _∙_}
-use Rattle.memory_structs.specs.Answers.{yes}
-use Rattle.memory_structs.specs.FrameCalls.{splitRange, partsOf}
+-- `split_range`: 2, no, or the extract with the frames below and above it.
 use borrow.Author.Needs.{needs}
+use mathlib.Core.Path.{_∙_}
+use Rattle.memory_structs.specs.Answers.{yes}
+use Rattle.memory_structs.proofs.FrameCases.{split-refused, split-yes, split-no}
 use Rattle.memory_structs.proofs.range.FrameRange.split_range.Statement.{statement}
 use Rattle.memory_structs.proofs.range.FrameRange.split_range.Tie as tie
 
@@ -10,8 +10,7 @@ any-above-top-requires : tie.Need-any-above-top-requires
 any-above-top-requires c κs = search needs
 
 returns : tie.Need-returns
-unfolding splitRange
-returns c = simp (sym (c .before .any-above-top .ensures) ∙ c .if1 .taken)
+returns c = split-refused _ _ (cc)
 
 holds-requires : tie.Need-holds-requires
 holds-requires c κs = search needs
@@ -23,13 +22,10 @@ above-requires : tie.Need-above-requires
 above-requires c κs = search needs
 
 returns-2 : tie.Need-returns-2
-unfolding splitRange
-returns-2 c = simp (sym (c .before .before .before .before .before .any-above-top .ensures) ∙ c .before .before .before .before .if1 .left, sym (c .before .before .before .holds .ensures) ∙ c .before .before .if2 .taken)
-    (λ i. yes (record { «before_start» = c .before .below .ensures i; «start_to_end» = c .before .before .before .before .before .before .args .extract; «after_end» = c .above .ensures i }))
+returns-2 c = (λ i. yes (record { «before_start» = c .before .below .ensures i; «start_to_end» = c .before .before .before .before .before .before .args .extract; «after_end» = c .above .ensures i })) ∙ split-yes _ _ (cc) (cc)
 
 returns-3 : tie.Need-returns-3
-unfolding splitRange
-returns-3 c = simp (sym (c .before .before .before .any-above-top .ensures) ∙ c .before .before .if1 .left, sym (c .before .holds .ensures) ∙ c .if2 .left)
+returns-3 c = split-no _ _ (cc) (cc)
 
 pub split-range-spec : {M : Type 1} → statement M
 split-range-spec =
