@@ -1,6 +1,6 @@
-// Answers as words: 1 for yes or 0 for no, then the value, a range as its start and end. The number is returned.
+// Answers as words: 1 for yes, 0 for no and for 2, then the value, a range as its start and end. The number is returned.
 ghost use Rattle.memory_structs.specs.Answers.{shownTest, shownNumber, shownRange, shownSplit, shownHalves};
-ghost use Rattle.exports.specs.Words.{Written, noWords, numberWords, rangeWords, splitWords, halvesWords};
+ghost use Rattle.exports.specs.Words.{Written, unitWords, numberWords, rangeWords, splitWords, halvesWords};
 use memory_structs::MaybeHalves;
 use memory_structs::MaybeNumber;
 use memory_structs::MaybeRange;
@@ -11,7 +11,7 @@ use memory_structs::YesNo;
 const OUT_OF_BOUNDS: u64 = 2;
 
 pub(crate) fn put_test(answer: YesNo, out: &mut [u64; 1]) -> u64
-    ensures { λ r. ⌜ Written noWords (shownTest answer) r (now (out .exit)) ⌝ }
+    ensures { λ r. ⌜ Written unitWords (shownTest answer) r (now (out .exit)) ⌝ }
 {
     match answer {
         YesNo::OutOfBounds => {

@@ -1,8 +1,8 @@
-// The range and frame calls: document 01, "Ranges" and "Frames".
+// The range and frame calls: document 01, "Ranges" and "Frames". `found` is 1 for yes, and 0 for no and for 2.
 ghost use Rattle.memory_structs.specs.Range.{range};
-ghost use Rattle.memory_structs.specs.RangeCalls.{sizeInFrames, containsRange, overlapOf, toExtended, fromPhysAddr, offsetOfAddress, addressAtOffset};
-ghost use Rattle.memory_structs.specs.FrameCalls.{mergeOf, splitRange, splitAt};
-ghost use Rattle.exports.specs.Words.{Written, noWords, numberWords, rangeWords, splitWords, halvesWords};
+ghost use Rattle.memory_structs.specs.RangeCalls.{sizeInFrames, containsRange, overlap, toExtended, fromPhysAddr, offsetOfAddress, addressAtOffset};
+ghost use Rattle.memory_structs.specs.FrameCalls.{merge, splitRange, splitAt};
+ghost use Rattle.exports.specs.Words.{Written, unitWords, numberWords, rangeWords, splitWords, halvesWords};
 use crate::answers::put_halves;
 use crate::answers::put_number;
 use crate::answers::put_range;
@@ -10,7 +10,7 @@ use crate::answers::put_split;
 use crate::answers::put_test;
 use memory_structs::FrameRange;
 
-// out: yes, size.
+// out: found, size.
 #[no_mangle]
 pub extern "C" fn likhmout_size_in_frames(start: u64, end: u64, out: &mut [u64; 2]) -> u64
     ensures { λ r. ⌜ Written numberWords (sizeInFrames (range start end)) r (now (out .exit)) ⌝ }
@@ -18,7 +18,7 @@ pub extern "C" fn likhmout_size_in_frames(start: u64, end: u64, out: &mut [u64; 
     put_number(FrameRange::new(start, end).size_in_frames(), out)
 }
 
-// out: yes or no.
+// out: found.
 #[no_mangle]
 pub extern "C" fn likhmout_contains_range(
     start: u64,
@@ -27,7 +27,7 @@ pub extern "C" fn likhmout_contains_range(
     other_end: u64,
     out: &mut [u64; 1],
 ) -> u64
-    ensures { λ r. ⌜ Written noWords (containsRange (range start end) (range «other_start» «other_end»)) r (now (out .exit)) ⌝ }
+    ensures { λ r. ⌜ Written unitWords (containsRange (range start end) (range «other_start» «other_end»)) r (now (out .exit)) ⌝ }
 {
     put_test(
         FrameRange::new(start, end).contains_range(FrameRange::new(other_start, other_end)),
@@ -35,7 +35,7 @@ pub extern "C" fn likhmout_contains_range(
     )
 }
 
-// out: yes or no, start, end.
+// out: found, start, end.
 #[no_mangle]
 pub extern "C" fn likhmout_overlap(
     start: u64,
@@ -44,7 +44,7 @@ pub extern "C" fn likhmout_overlap(
     other_end: u64,
     out: &mut [u64; 3],
 ) -> u64
-    ensures { λ r. ⌜ Written rangeWords (overlapOf (range start end) (range «other_start» «other_end»)) r (now (out .exit)) ⌝ }
+    ensures { λ r. ⌜ Written rangeWords (overlap (range start end) (range «other_start» «other_end»)) r (now (out .exit)) ⌝ }
 {
     put_range(
         FrameRange::new(start, end).overlap(FrameRange::new(other_start, other_end)),
@@ -52,7 +52,7 @@ pub extern "C" fn likhmout_overlap(
     )
 }
 
-// out: yes, start, end.
+// out: found, start, end.
 #[no_mangle]
 pub extern "C" fn likhmout_to_extended(start: u64, end: u64, frame: u64, out: &mut [u64; 3]) -> u64
     ensures { λ r. ⌜ Written rangeWords (toExtended (range start end) frame) r (now (out .exit)) ⌝ }
@@ -60,7 +60,7 @@ pub extern "C" fn likhmout_to_extended(start: u64, end: u64, frame: u64, out: &m
     put_range(FrameRange::new(start, end).to_extended(frame), out)
 }
 
-// out: yes, start, end.
+// out: found, start, end.
 #[no_mangle]
 pub extern "C" fn likhmout_from_phys_addr(address: u64, bytes: u64, out: &mut [u64; 3]) -> u64
     ensures { λ r. ⌜ Written rangeWords (fromPhysAddr address bytes) r (now (out .exit)) ⌝ }
@@ -68,7 +68,7 @@ pub extern "C" fn likhmout_from_phys_addr(address: u64, bytes: u64, out: &mut [u
     put_range(FrameRange::from_phys_addr(address, bytes), out)
 }
 
-// out: yes or no, offset.
+// out: found, offset.
 #[no_mangle]
 pub extern "C" fn likhmout_offset_of_address(
     start: u64,
@@ -81,7 +81,7 @@ pub extern "C" fn likhmout_offset_of_address(
     put_number(FrameRange::new(start, end).offset_of_address(address), out)
 }
 
-// out: yes or no, address.
+// out: found, address.
 #[no_mangle]
 pub extern "C" fn likhmout_address_at_offset(
     start: u64,
@@ -94,7 +94,7 @@ pub extern "C" fn likhmout_address_at_offset(
     put_number(FrameRange::new(start, end).address_at_offset(offset), out)
 }
 
-// out: yes or no, start, end.
+// out: found, start, end.
 #[no_mangle]
 pub extern "C" fn likhmout_merge(
     start: u64,
@@ -103,7 +103,7 @@ pub extern "C" fn likhmout_merge(
     other_end: u64,
     out: &mut [u64; 3],
 ) -> u64
-    ensures { λ r. ⌜ Written rangeWords (mergeOf (range start end) (range «other_start» «other_end»)) r (now (out .exit)) ⌝ }
+    ensures { λ r. ⌜ Written rangeWords (merge (range start end) (range «other_start» «other_end»)) r (now (out .exit)) ⌝ }
 {
     put_range(
         FrameRange::new(start, end).merge(FrameRange::new(other_start, other_end)),
@@ -111,7 +111,7 @@ pub extern "C" fn likhmout_merge(
     )
 }
 
-// out: yes or no, then before, middle and after, each as start, end.
+// out: found, then before, middle and after, each as start, end.
 #[no_mangle]
 pub extern "C" fn likhmout_split_range(
     start: u64,
@@ -128,7 +128,7 @@ pub extern "C" fn likhmout_split_range(
     )
 }
 
-// out: yes or no, then first and second half, each as start, end.
+// out: found, then first and second half, each as start, end.
 #[no_mangle]
 pub extern "C" fn likhmout_split_at(start: u64, end: u64, frame: u64, out: &mut [u64; 5]) -> u64
     ensures { λ r. ⌜ Written halvesWords (splitAt (range start end) frame) r (now (out .exit)) ⌝ }

@@ -1,63 +1,63 @@
 -- What each frame call shows, case by case: the laws by which its function, and whoever calls it, goes.
 use Prim.Native.Nat.{ℕ, _+_, _-_, _≤_, _<_}
 use mathlib.Core.Path.{_≡_, ap, _∙_}
-use mathlib.Core.Bool.{true, false, not, _&&_, _||_}
+use mathlib.Core.Bool.{true, false, _||_}
 use borrow.Author.Tests.{ltb-false, lt-ltb, le-ltb, le-leb, lt-leb, eq-eqb, ne-eqb}
-use Rattle.memory_structs.specs.Range.{top, range, empty, isEmpty, aboveTop, inside}
-use Rattle.memory_structs.specs.Answers.{refused, no, yes, noParts, noHalves}
-use Rattle.memory_structs.specs.FrameCalls.{mergeOf, partsOf, splitRange, splitAt}
+use Rattle.memory_structs.specs.Range.{top, range, empty, isEmpty, aboveTop, contains}
+use Rattle.memory_structs.specs.Answers.{outOfBounds, no, yes, noParts, noHalves}
+use Rattle.memory_structs.specs.FrameCalls.{merge, partsOf, splitRange, splitAt}
 use Rattle.memory_structs.specs.declared.range.FrameRange.{FrameRange}
 use Rattle.memory_structs.proofs.Hull.{hull-of, hull-turned}
 
 module _ (a b : FrameRange) where
-  pub merge-refused : (aboveTop a || aboveTop b) ≡ true → refused empty ≡ mergeOf a b
-  unfolding mergeOf
+  pub merge-refused : (aboveTop a || aboveTop b) ≡ true → outOfBounds empty ≡ merge a b
+  unfolding merge
   merge-refused e = simp e
 
   module _ (bound : (aboveTop a || aboveTop b) ≡ false) where
-    pub merge-first-empty : isEmpty a ≡ true → no empty ≡ mergeOf a b
-    unfolding mergeOf
+    pub merge-first-empty : isEmpty a ≡ true → no empty ≡ merge a b
+    unfolding merge
     merge-first-empty e = simp (bound, e)
 
     module _ (first : isEmpty a ≡ false) where
-      pub merge-second-empty : isEmpty b ≡ true → no empty ≡ mergeOf a b
-      unfolding mergeOf
+      pub merge-second-empty : isEmpty b ≡ true → no empty ≡ merge a b
+      unfolding merge
       merge-second-empty e = simp (bound, first, e)
 
       module _ (second : isEmpty b ≡ false) where
-        pub merge-below : b .end + 1 ≡ a .start → yes (range (b .start) (a .end)) ≡ mergeOf a b
-        unfolding mergeOf
+        pub merge-below : b .end + 1 ≡ a .start → yes (range (b .start) (a .end)) ≡ merge a b
+        unfolding merge
         merge-below e = simp (bound, first, second, eq-eqb _ _ e) (ap yes (hull-turned b a (record { first = ltb-false _ _ second; second = ltb-false _ _ first; touch = e })))
 
-        pub merge-above : (b .end + 1 ≡ a .start → ⊥) → a .end + 1 ≡ b .start → yes (range (a .start) (b .end)) ≡ mergeOf a b
-        unfolding mergeOf
+        pub merge-above : (b .end + 1 ≡ a .start → ⊥) → a .end + 1 ≡ b .start → yes (range (a .start) (b .end)) ≡ merge a b
+        unfolding merge
         merge-above n e = simp (bound, first, second, ne-eqb _ _ n, eq-eqb _ _ e) (ap yes (hull-of a b (record { first = ltb-false _ _ first; second = ltb-false _ _ second; touch = e })))
 
-        pub merge-apart : (b .end + 1 ≡ a .start → ⊥) → (a .end + 1 ≡ b .start → ⊥) → no empty ≡ mergeOf a b
-        unfolding mergeOf
+        pub merge-apart : (b .end + 1 ≡ a .start → ⊥) → (a .end + 1 ≡ b .start → ⊥) → no empty ≡ merge a b
+        unfolding merge
         merge-apart n m = simp (bound, first, second, ne-eqb _ _ n, ne-eqb _ _ m)
 
 module _ (whole extract : FrameRange) where
-  pub split-refused : (aboveTop whole || aboveTop extract) ≡ true → refused noParts ≡ splitRange whole extract
+  pub split-refused : (aboveTop whole || aboveTop extract) ≡ true → outOfBounds noParts ≡ splitRange whole extract
   unfolding splitRange
   split-refused e = simp e
 
   module _ (bound : (aboveTop whole || aboveTop extract) ≡ false) where
-    pub split-yes : (not (isEmpty extract) && inside whole extract) ≡ true → yes (partsOf whole extract) ≡ splitRange whole extract
+    pub split-yes : contains whole extract ≡ true → yes (partsOf whole extract) ≡ splitRange whole extract
     unfolding splitRange
     split-yes e = simp (bound, e)
 
-    pub split-no : (not (isEmpty extract) && inside whole extract) ≡ false → no noParts ≡ splitRange whole extract
+    pub split-no : contains whole extract ≡ false → no noParts ≡ splitRange whole extract
     unfolding splitRange
     split-no e = simp (bound, e)
 
 module _ (whole : FrameRange) (f : ℕ) where
-  pub halves-refused : aboveTop whole ≡ true → refused noHalves ≡ splitAt whole f
+  pub halves-refused : aboveTop whole ≡ true → outOfBounds noHalves ≡ splitAt whole f
   unfolding splitAt
   halves-refused e = simp e
 
   module _ (bound : aboveTop whole ≡ false) where
-    pub halves-refused-frame : top < f → refused noHalves ≡ splitAt whole f
+    pub halves-refused-frame : top < f → outOfBounds noHalves ≡ splitAt whole f
     unfolding splitAt
     halves-refused-frame h = simp (bound, lt-ltb _ _ h)
 

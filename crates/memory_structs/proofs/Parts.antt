@@ -6,11 +6,10 @@ use mathlib.Core.Bool.{Bool, true, false, not, _&&_, _||_, cond}
 use lib.Dec.{leb, ltb, eqb}
 use borrow.Author.Tests.{ltb-true, ltb-false, leb-true, eqb-true, eqb-false, not-true}
 use Rattle.memory_structs.specs.Choice.{if_then_else_}
-use Rattle.memory_structs.specs.Range.{top, range, empty, isEmpty, size, aboveTop, covers, inside, framesBelow, framesAbove}
-use Rattle.memory_structs.specs.Answers.{Shown, refused, no, yes, noParts, noHalves}
-use Rattle.memory_structs.specs.FrameCalls.{partsOf, splitRange, splitAt}
+use Rattle.memory_structs.specs.Range.{top, range, empty, isEmpty, size, aboveTop, covers, inside, contains, framesBelow, framesAbove}
+use Rattle.memory_structs.specs.Answers.{Shown, yes}
+use Rattle.memory_structs.specs.FrameCalls.{splitAt}
 use Rattle.memory_structs.specs.declared.range.FrameRange.{FrameRange}
-use Rattle.memory_structs.specs.declared.frames.SplitFrames.{SplitFrames}
 use Rattle.memory_structs.specs.declared.frames.Halves.{Halves}
 use Rattle.memory_structs.proofs.Bools.{if-cases, both-first, both-second}
 use Rattle.memory_structs.proofs.Cover.{cov, cov-cut, cov-empty, covers-low, covers-high}
@@ -32,7 +31,7 @@ pub record Held (whole extract : FrameRange) : Type 0 where
   pub low : whole .start ≤ extract .start
   pub high : extract .end ≤ whole .end
 
-pub held : (whole extract : FrameRange) → (not (isEmpty extract) && inside whole extract) ≡ true → Held whole extract
+pub held : (whole extract : FrameRange) → contains whole extract ≡ true → Held whole extract
 held whole extract e =
     let ends = both-second (not (isEmpty extract)) (inside whole extract) e in
     record {

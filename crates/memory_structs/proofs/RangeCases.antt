@@ -2,15 +2,15 @@
 use Prim.Native.Nat.{ℕ, _+_, _-_, _*_, _/_, _≤_, _<_, min, max}
 use native.Mathlib.Omega.{arith}
 use mathlib.Core.Path.{_≡_}
-use mathlib.Core.Bool.{true, false, not, _&&_, _||_}
+use mathlib.Core.Bool.{true, false, _||_}
 use borrow.Author.Tests.{lt-ltb, le-ltb, le-leb, lt-leb, eq-eqb, ne-eqb}
-use Rattle.memory_structs.specs.Range.{top, frameSize, addressLimit, range, empty, isEmpty, size, aboveTop, inside, common, touched}
-use Rattle.memory_structs.specs.Answers.{refused, no, yes}
-use Rattle.memory_structs.specs.RangeCalls.{sizeInFrames, containsRange, overlapOf, toExtended, fromPhysAddr, offsetOfAddress, addressAtOffset}
+use Rattle.memory_structs.specs.Range.{top, frameSize, addressLimit, range, empty, isEmpty, size, aboveTop, common, contains, hull, touched}
+use Rattle.memory_structs.specs.Answers.{outOfBounds, no, yes}
+use Rattle.memory_structs.specs.RangeCalls.{sizeInFrames, containsRange, overlap, toExtended, fromPhysAddr, offsetOfAddress, addressAtOffset}
 use Rattle.memory_structs.specs.declared.range.FrameRange.{FrameRange}
 
 module _ (r : FrameRange) where
-  pub size-refused : aboveTop r ≡ true → refused 0 ≡ sizeInFrames r
+  pub size-refused : aboveTop r ≡ true → outOfBounds 0 ≡ sizeInFrames r
   unfolding sizeInFrames
   size-refused e = simp e
 
@@ -19,38 +19,38 @@ module _ (r : FrameRange) where
   size-shown e = simp e
 
 module _ (a b : FrameRange) where
-  pub contains-refused : (aboveTop a || aboveTop b) ≡ true → refused tt ≡ containsRange a b
+  pub contains-refused : (aboveTop a || aboveTop b) ≡ true → outOfBounds tt ≡ containsRange a b
   unfolding containsRange
   contains-refused e = simp e
 
-  pub overlap-refused : (aboveTop a || aboveTop b) ≡ true → refused empty ≡ overlapOf a b
-  unfolding overlapOf
+  pub overlap-refused : (aboveTop a || aboveTop b) ≡ true → outOfBounds empty ≡ overlap a b
+  unfolding overlap
   overlap-refused e = simp e
 
   module _ (bound : (aboveTop a || aboveTop b) ≡ false) where
-    pub contains-yes : (not (isEmpty b) && inside a b) ≡ true → yes tt ≡ containsRange a b
+    pub contains-yes : contains a b ≡ true → yes tt ≡ containsRange a b
     unfolding containsRange
     contains-yes e = simp (bound, e)
 
-    pub contains-no : (not (isEmpty b) && inside a b) ≡ false → no tt ≡ containsRange a b
+    pub contains-no : contains a b ≡ false → no tt ≡ containsRange a b
     unfolding containsRange
     contains-no e = simp (bound, e)
 
-    pub overlap-yes : max (a .start) (b .start) ≤ min (a .end) (b .end) → yes (common a b) ≡ overlapOf a b
-    unfolding overlapOf
+    pub overlap-yes : max (a .start) (b .start) ≤ min (a .end) (b .end) → yes (common a b) ≡ overlap a b
+    unfolding overlap
     overlap-yes h = simp (bound, le-leb _ _ h)
 
-    pub overlap-no : min (a .end) (b .end) < max (a .start) (b .start) → no empty ≡ overlapOf a b
-    unfolding overlapOf
+    pub overlap-no : min (a .end) (b .end) < max (a .start) (b .start) → no empty ≡ overlap a b
+    unfolding overlap
     overlap-no h = simp (bound, lt-leb _ _ h)
 
 module _ (r : FrameRange) (f : ℕ) where
-  pub extended-refused : aboveTop r ≡ true → refused empty ≡ toExtended r f
+  pub extended-refused : aboveTop r ≡ true → outOfBounds empty ≡ toExtended r f
   unfolding toExtended
   extended-refused e = simp e
 
   module _ (bound : aboveTop r ≡ false) where
-    pub extended-refused-frame : top < f → refused empty ≡ toExtended r f
+    pub extended-refused-frame : top < f → outOfBounds empty ≡ toExtended r f
     unfolding toExtended
     extended-refused-frame h = simp (bound, lt-ltb _ _ h)
 
@@ -58,16 +58,16 @@ module _ (r : FrameRange) (f : ℕ) where
     unfolding toExtended
     extended-empty h e = simp (bound, le-ltb _ _ h, e)
 
-    pub extended-full : f ≤ top → isEmpty r ≡ false → yes (range (min (r .start) f) (max (r .end) f)) ≡ toExtended r f
+    pub extended-full : f ≤ top → isEmpty r ≡ false → yes (hull r (range f f)) ≡ toExtended r f
     unfolding toExtended
     extended-full h e = simp (bound, le-ltb _ _ h, e)
 
 module _ (address bytes : ℕ) where
-  pub phys-refused-address : addressLimit ≤ address → refused empty ≡ fromPhysAddr address bytes
+  pub phys-refused-address : addressLimit ≤ address → outOfBounds empty ≡ fromPhysAddr address bytes
   unfolding fromPhysAddr
   phys-refused-address h = simp (le-leb _ _ h)
 
-  pub phys-refused-bytes : address < addressLimit → addressLimit < bytes → refused empty ≡ fromPhysAddr address bytes
+  pub phys-refused-bytes : address < addressLimit → addressLimit < bytes → outOfBounds empty ≡ fromPhysAddr address bytes
   unfolding fromPhysAddr
   phys-refused-bytes h k = simp (lt-leb _ _ h, lt-ltb _ _ k)
 
@@ -76,7 +76,7 @@ module _ (address bytes : ℕ) where
     unfolding fromPhysAddr touched
     phys-none e = simp (lt-leb _ _ low, le-ltb _ _ few, eq-eqb _ _ e)
 
-    pub phys-refused-end : (bytes ≡ 0 → ⊥) → top < (address + (bytes - 1)) / frameSize → refused empty ≡ fromPhysAddr address bytes
+    pub phys-refused-end : (bytes ≡ 0 → ⊥) → top < (address + (bytes - 1)) / frameSize → outOfBounds empty ≡ fromPhysAddr address bytes
     unfolding fromPhysAddr touched
     phys-refused-end n h =
         let past : top < max (address / frameSize) ((address + (bytes - 1)) / frameSize) = omega arith in
@@ -89,12 +89,12 @@ module _ (address bytes : ℕ) where
         simp (lt-leb _ _ low, le-ltb _ _ few, ne-eqb _ _ n, le-ltb _ _ fits)
 
 module _ (r : FrameRange) (address : ℕ) where
-  pub offset-refused : aboveTop r ≡ true → refused 0 ≡ offsetOfAddress r address
+  pub offset-refused : aboveTop r ≡ true → outOfBounds 0 ≡ offsetOfAddress r address
   unfolding offsetOfAddress
   offset-refused e = simp e
 
   module _ (bound : aboveTop r ≡ false) where
-    pub offset-refused-address : addressLimit ≤ address → refused 0 ≡ offsetOfAddress r address
+    pub offset-refused-address : addressLimit ≤ address → outOfBounds 0 ≡ offsetOfAddress r address
     unfolding offsetOfAddress
     offset-refused-address h = simp (bound, le-leb _ _ h)
 
@@ -111,7 +111,7 @@ module _ (r : FrameRange) (address : ℕ) where
     offset-shown h k l = simp (bound, lt-leb _ _ h, le-leb _ _ k, le-leb _ _ l)
 
 module _ (r : FrameRange) (offset : ℕ) where
-  pub address-refused : aboveTop r ≡ true → refused 0 ≡ addressAtOffset r offset
+  pub address-refused : aboveTop r ≡ true → outOfBounds 0 ≡ addressAtOffset r offset
   unfolding addressAtOffset
   address-refused e = simp e
 

@@ -1,6 +1,6 @@
--- Ranges of frames. The words in quotes are document 01's, "Ranges".
+-- Ranges of frames. The words in quotes are document 01's.
 use Prim.Native.Nat.{ℕ, _+_, _-_, _/_, _^_, min, max}
-use mathlib.Core.Bool.{Bool, _&&_, not}
+use mathlib.Core.Bool.{Bool, not, _&&_, _||_}
 use lib.Dec.{leb, ltb, eqb}
 use Rattle.memory_structs.specs.Choice.{if_then_else_}
 use Rattle.memory_structs.specs.declared.range.FrameRange.{FrameRange}
@@ -9,7 +9,7 @@ use Rattle.memory_structs.specs.declared.range.FrameRange.{FrameRange}
 abbrev pub top : ℕ
 top = 268435455
 
--- "A frame is 4,096 bytes of physical memory" (document 00)
+-- the bytes of a frame: "divide by 4096"
 abbrev pub frameSize : ℕ
 frameSize = 4096
 
@@ -17,7 +17,7 @@ frameSize = 4096
 abbrev pub addressLimit : ℕ
 addressLimit = 2 ^ 40
 
--- "`[a,b]` holds both ends"
+-- "`[a,b]` holds both ends."
 abbrev pub range : ℕ → ℕ → FrameRange
 range s e = record { start = s; end = e }
 
@@ -41,27 +41,35 @@ aboveTop r = ltb top (max (r .start) (r .end))
 abbrev pub covers : FrameRange → ℕ → Bool
 covers r f = leb (r .start) f && leb f (r .end)
 
--- a range has a frame in common with another
+-- some frame is in both ranges
 abbrev pub meets : FrameRange → FrameRange → Bool
 meets a b = leb (max (a .start) (b .start)) (min (a .end) (b .end))
 
--- the frames that two ranges that meet have in common
+-- the frames that are in both
 abbrev pub common : FrameRange → FrameRange → FrameRange
 common a b = range (max (a .start) (b .start)) (min (a .end) (b .end))
 
--- the ends of the second lie between the ends of the first
+-- the inner range starts no lower and ends no higher
 abbrev pub inside : FrameRange → FrameRange → Bool
-inside a b = leb (a .start) (b .start) && leb (b .end) (a .end)
+inside outer inner = leb (outer .start) (inner .start) && leb (inner .end) (outer .end)
 
--- the first ends just below the second
-abbrev pub touches : FrameRange → FrameRange → Bool
-touches a b = eqb (a .end + 1) (b .start)
+-- the inner range has frames, and all are in the outer: "(false for an empty inner range)"
+abbrev pub contains : FrameRange → FrameRange → Bool
+contains outer inner = not (isEmpty inner) && inside outer inner
 
--- the least range that has the frames of both
+-- the first ends just below the start of the second
+abbrev pub justBelow : FrameRange → FrameRange → Bool
+justBelow a b = eqb (a .end + 1) (b .start)
+
+-- "ranges that don't touch" are those of which neither is just below the other
+abbrev pub touch : FrameRange → FrameRange → Bool
+touch a b = justBelow b a || justBelow a b
+
+-- of ranges that have frames: the least range with the frames of both
 abbrev pub hull : FrameRange → FrameRange → FrameRange
 hull a b = range (min (a .start) (b .start)) (max (a .end) (b .end))
 
--- the frames of a range below a frame, and those above it; "[1,0]" where there are none
+-- of a range that has the frame f: its frames below f, and those above f; "absent parts are none", which show [1,0]
 unfoldable pub framesBelow : FrameRange → ℕ → FrameRange
 framesBelow r f = if ltb (r .start) f then range (r .start) (f - 1) else empty
 

@@ -1,11 +1,10 @@
 // A range of frames, and the calls on it: document 01, "Ranges".
 ghost use mathlib.Core.Path.{_≡_};
-ghost use mathlib.Core.Bool.{false, not, _&&_, _||_};
-ghost use Prim.Native.Nat.{_+_, _≤_, min, max};
-ghost use lib.Dec.{ltb};
-ghost use Rattle.memory_structs.specs.Range.{range, isEmpty, size, aboveTop, inside, framesBelow, framesAbove};
+ghost use mathlib.Core.Bool.{false, _||_};
+ghost use Prim.Native.Nat.{min, max};
+ghost use Rattle.memory_structs.specs.Range.{range, isEmpty, size, aboveTop, contains, framesBelow, framesAbove};
 ghost use Rattle.memory_structs.specs.Answers.{shownTest, shownNumber, shownRange};
-ghost use Rattle.memory_structs.specs.RangeCalls.{sizeInFrames, containsRange, overlapOf, toExtended, fromPhysAddr, offsetOfAddress, addressAtOffset};
+ghost use Rattle.memory_structs.specs.RangeCalls.{sizeInFrames, containsRange, overlap, toExtended, fromPhysAddr, offsetOfAddress, addressAtOffset};
 
 // Bytes in a frame.
 const FRAME_SIZE: u64 = 4096;
@@ -26,14 +25,14 @@ pub enum YesNo {
     Yes,
 }
 
-// What a call that looks for a number answers.
+// What a call that gives a number answers. `size_in_frames` always finds one.
 pub enum MaybeNumber {
     OutOfBounds,
     Nothing,
     Number(u64),
 }
 
-// What a call that looks for a range answers.
+// What a call that gives a range answers. `to_extended` and `from_phys_addr` always find one.
 pub enum MaybeRange {
     OutOfBounds,
     Nothing,
@@ -47,7 +46,7 @@ impl FrameRange {
     // The highest frame, 2^28 - 1.
     pub const TOP: u64 = 268435455;
 
-    // Any two numbers make a range: each call tests the bound by itself.
+    // Any two numbers make a range. This and the two tests below it are what the calls are made of; each call tests the bound.
     pub fn new(start: u64, end: u64) -> FrameRange
         ensures { λ r. ⌜ r ≡ range start end ⌝ }
     {
@@ -73,7 +72,7 @@ impl FrameRange {
         if self.is_above_top() {
             return MaybeNumber::OutOfBounds;
         }
-        MaybeNumber::Number(size_below_top(self))
+        MaybeNumber::Number(bounded_size(self))
     }
 
     pub fn contains_range(self, other: FrameRange) -> YesNo
@@ -90,7 +89,7 @@ impl FrameRange {
     }
 
     pub fn overlap(self, other: FrameRange) -> MaybeRange
-        ensures { λ r. ⌜ shownRange r ≡ overlapOf self other ⌝ }
+        ensures { λ r. ⌜ shownRange r ≡ overlap self other ⌝ }
     {
         if any_above_top(self, other) {
             return MaybeRange::OutOfBounds;
@@ -165,15 +164,15 @@ impl FrameRange {
         if self.is_above_top() {
             return MaybeNumber::OutOfBounds;
         }
-        if size_below_top(self) * FRAME_SIZE <= offset {
+        if bounded_size(self) * FRAME_SIZE <= offset {
             return MaybeNumber::Nothing;
         }
         MaybeNumber::Number(self.start * FRAME_SIZE + offset)
     }
 }
 
-// The size of a range whose end is at or below the top, so that the sum fits.
-fn size_below_top(r: FrameRange) -> u64
+// The size of a range that is not above the top, so that the sum fits.
+fn bounded_size(r: FrameRange) -> u64
     requires { ⌜ aboveTop r ≡ false ⌝ }
     ensures { λ n. ⌜ n ≡ size r ⌝ }
 {
@@ -188,7 +187,7 @@ pub(crate) fn any_above_top(a: FrameRange, b: FrameRange) -> bool
 
 // Whether `inner` has a frame and all of its frames are in `outer`.
 pub(crate) fn holds(outer: FrameRange, inner: FrameRange) -> bool
-    ensures { λ r. ⌜ r ≡ (not (isEmpty inner) && inside outer inner) ⌝ }
+    ensures { λ r. ⌜ r ≡ contains outer inner ⌝ }
 {
     if inner.is_empty() {
         return false;
@@ -199,7 +198,7 @@ pub(crate) fn holds(outer: FrameRange, inner: FrameRange) -> bool
     inner.end <= outer.end
 }
 
-// The frames of the range below `frame`.
+// The frames below `frame` of a range that has it.
 pub(crate) fn below(r: FrameRange, frame: u64) -> FrameRange
     ensures { λ part. ⌜ part ≡ framesBelow r frame ⌝ }
 {
@@ -209,7 +208,7 @@ pub(crate) fn below(r: FrameRange, frame: u64) -> FrameRange
     FrameRange::EMPTY
 }
 
-// The frames of the range above `frame`.
+// The frames above `frame` of a range that has it.
 pub(crate) fn above(r: FrameRange, frame: u64) -> FrameRange
     ensures { λ part. ⌜ part ≡ framesAbove r frame ⌝ }
 {
