@@ -1,10 +1,11 @@
 -- Which frames a range covers, as a number that adds up: 1 where it covers the frame, else 0.
-use Prim.Native.Nat.{ℕ, suc, _+_, _-_, _≤_, _<_, min, max}
+use Prim.Native.Nat.{ℕ, _+_, _-_, _≤_, _<_, min, max}
 use native.Mathlib.Omega.{arith}
-use mathlib.Core.Path.{_≡_, refl}
-use mathlib.Core.Bool.{Bool, true, false, _&&_, cond}
+use mathlib.Core.Path.{_≡_, refl, sym}
+use mathlib.Core.Bool.{Bool, true, false, _&&_}
 use lib.Dec.{leb}
-use borrow.Author.Tests.{leb-true, leb-false, le-leb, lt-leb}
+use Rattle.memory_structs.specs.Choice.{if_then_else_}
+use borrow.Author.Tests.{leb-true, leb-false, le-leb}
 use Rattle.memory_structs.specs.Range.{range, empty, covers}
 use Rattle.memory_structs.specs.declared.range.FrameRange.{FrameRange}
 use Rattle.memory_structs.proofs.Bools.{both, both-first, both-second}
@@ -53,6 +54,15 @@ covers-cov r f e = cov-in r f (covers-low r f e) (covers-high r f e)
 
 pub cov-covers : (r : FrameRange) (f : ℕ) → cov r f ≡ 1 → covers r f ≡ true
 cov-covers r f e = cov-cases r f (λ p q w. covers-between r f p q) (λ p w. absurd (omega arith)) (λ p w. absurd (omega arith))
+
+-- as a choice
+pub covers-bit : (r : FrameRange) (f : ℕ) → (if covers r f then 1 else 0) ≡ cov r f
+covers-bit r f = go (leb (r .start) f) (leb f (r .end)) refl refl
+  where
+    go : (a b : Bool) → leb (r .start) f ≡ a → leb f (r .end) ≡ b → (if a && b then 1 else 0) ≡ cov r f
+    go true true p q = sym (cov-in r f (omega (arith, leb-true)) (omega (arith, leb-true)))
+    go true false p q = sym (cov-above r f (omega (arith, leb-false)))
+    go false b p q = sym (cov-below r f (omega (arith, leb-false)))
 
 -- a range cut in two
 pub cov-cut : (a m k b f : ℕ) → k ≡ m + 1 → a ≤ k → m ≤ b → cov (range a b) f ≡ cov (range a m) f + cov (range k b) f

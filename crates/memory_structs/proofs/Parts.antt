@@ -18,12 +18,12 @@ use Rattle.memory_structs.proofs.Cover.{cov, cov-cut, cov-empty, covers
 pub below-cases : (r : FrameRange) (f : ℕ) (P : FrameRange → Type 0) → (r .start < f → P (range (r .start) (f - 1))) → (f ≤ r .start → P empty) → P (framesBelow r f)
 unfolding framesBelow
 below-cases r f P some none =
-    if-cases P (ltb (r .start) f) (range (r .start) (f - 1)) empty (λ e. some (ltb-true _ _ e)) (λ e. none (ltb-false _ _ e))
+    if-cases P (ltb (r .start) f) (λ e. some (ltb-true _ _ e)) (λ e. none (ltb-false _ _ e))
 
 pub above-cases : (r : FrameRange) (f : ℕ) (P : FrameRange → Type 0) → (f < r .end → P (range (f + 1) (r .end))) → (r .end ≤ f → P empty) → P (framesAbove r f)
 unfolding framesAbove
 above-cases r f P some none =
-    if-cases P (ltb f (r .end)) (range (f + 1) (r .end)) empty (λ e. some (ltb-true _ _ e)) (λ e. none (ltb-false _ _ e))
+    if-cases P (ltb f (r .end)) (λ e. some (ltb-true _ _ e)) (λ e. none (ltb-false _ _ e))
 
 -- a range with frames, wholly inside another
 pub record Held (whole extract : FrameRange) : Type 0 where
@@ -76,11 +76,11 @@ pub record MakeUp (whole : FrameRange) (h : Halves) : Type 0 where
 pub halves-make-up : (whole : FrameRange) (f : ℕ) (h : Halves) → splitAt whole f ≡ yes h → MakeUp whole h
 unfolding splitAt
 halves-make-up whole f h =
-    if-cases P (aboveTop whole || ltb top f) _ _ (λ a e. never _ refl e) (λ a.
-    if-cases P (isEmpty whole) _ _ (λ b e. never _ refl e) (λ b.
-    if-cases P (eqb f (whole .start)) _ _ (λ s e. shown e (record { sizes = omega arith; covers-once = λ g. omega (arith, cov-empty g) })) (λ s.
-    if-cases P (eqb f (whole .end + 1)) _ _ (λ t e. shown e (record { sizes = omega arith; covers-once = λ g. omega (arith, cov-empty g) })) (λ t.
-    if-cases P (covers whole f) _ _ (λ v e. shown e (cut (eqb-false _ _ s) v)) (λ v e. never _ refl e)))))
+    if-cases P (aboveTop whole || ltb top f) (λ a e. never _ refl e) (λ a.
+    if-cases P (isEmpty whole) (λ b e. never _ refl e) (λ b.
+    if-cases P (eqb f (whole .start)) (λ s e. shown e (record { sizes = omega arith; covers-once = λ g. omega (arith, cov-empty g) })) (λ s.
+    if-cases P (eqb f (whole .end + 1)) (λ t e. shown e (record { sizes = omega arith; covers-once = λ g. omega (arith, cov-empty g) })) (λ t.
+    if-cases P (covers whole f) (λ v e. shown e (cut (eqb-false _ _ s) v)) (λ v e. never _ refl e)))))
   where
     P : Shown Halves → Type 0
     P s = s ≡ yes h → MakeUp whole h

@@ -1,0 +1,136 @@
+-- Demand 3, proved: `demand-3`.
+use Prim.Native.Nat.{ℕ, zero, suc, _+_, _-_, _≤_, _<_}
+use native.Mathlib.Omega.{arith}
+use mathlib.Core.Path.{_≡_, refl, sym, ap, subst, _∙_}
+use mathlib.Core.Bool.{Bool, true, false, not, _&&_, _||_, or-false}
+use mathlib.Core.List.{List, [], _∷_, _++_}
+use lib.ListN.{length, take, drop}
+use lib.Dec.{leb, ltb, eqb}
+use borrow.Author.Tests.{eqb-true, eqb-false}
+use Rattle.memory_structs.specs.Choice.{if_then_else_}
+use Rattle.memory_structs.specs.Range.{covers, aboveTop, touched, bytesOutOfBounds, addressLimit}
+use Rattle.memory_structs.proofs.Bools.{neither-first, neither-second}
+use Rattle.memory_structs.specs.declared.range.FrameRange.{FrameRange}
+use Rattle.model.specs.Lists.{Lists, entries, anyOf, allOf, disjoint, bound, inUnion}
+use Rattle.model.specs.Boot.{Extent, marked, inFrames, inBytes, ranges, rangeOf, refusal, bootRefusal, anyOutOfBounds, byteRefusal, booted}
+use Rattle.model.specs.Requests.{Result, refused, counted}
+use Rattle.model.specs.Rules.{rules, tidy, slotted}
+use Rattle.model.specs.Store.{part, load, recordOf, wordsOf, wordsIn}
+use Rattle.model.specs.Calls.{Call, bootCall, bootBytesCall, Outcome, answer, boot, noEntries, shortBuffer, kept, stored, call, fresh, freshRecord}
+use Rattle.model.specs.History.{held, everGranted, Exclusive, isGeneral, timesFree, Struck, Boots, in-frames, in-bytes, Kept, Demand3}
+use Rattle.model.specs.declared.Answer.{Answer}
+use Rattle.model.specs.declared.ByteArea.{ByteArea}
+use Rattle.model.specs.declared.Kind.{Kind}
+use Rattle.model.specs.declared.Kind.the-variants.{General, Reserved}
+use Rattle.model.specs.declared.FrameAllocator.{FrameAllocator}
+use Rattle.model.proofs.Cover.{count}
+use Rattle.model.proofs.Lawful.{Lawful}
+use Rattle.model.proofs.Ruled.{rules-lawful}
+use Rattle.model.proofs.Runs.{after, events, counts}
+use Rattle.model.proofs.Trace.{Told, told, free-told}
+use Rattle.model.proofs.Independent.{independent}
+use Rattle.model.proofs.Boots.{Accepted, accepted, booted-lawful, booted-known, booted-free, booted-general, booted-some}
+use Rattle.model.proofs.Whole.{storables, words-beyond, words-count, words-twice, part-then}
+use Rattle.model.proofs.Carried.{Stands, loads, called, Ran, ran}
+
+-- ---- the first call: an accepted boot of a fresh record
+
+fresh-lawful : Lawful fresh
+unfolding fresh rules tidy slotted entries allOf anyOf disjoint bound
+fresh-lawful = rules-lawful fresh refl
+
+early-words : (ws : List ℕ) → wordsOf fresh ws ≡ ws
+unfolding wordsOf wordsIn fresh
+early-words ws = rw (part-then 3072 ws, part-then 2048 ws, part-then 1024 ws) (part-then 0 ws)
+
+fresh-stands : (ws : List ℕ) → 4096 ≤ length ws → Stands fresh freshRecord ws
+unfolding freshRecord
+fresh-stands ws h = record { lawful = fresh-lawful; records = refl; words = sym (early-words ws); enough = h }
+
+-- a byte area that passes 2 ends at or below the top
+bytes-below : (areas : List ByteArea) → anyOutOfBounds areas ≡ false → anyOf aboveTop (ranges (inBytes areas)) ≡ false
+unfolding anyOutOfBounds inBytes ranges anyOf rangeOf marked
+bytes-below [] e = refl
+bytes-below (x ∷ areas) e =
+    let here = neither-first (bytesOutOfBounds (x .address) (x .bytes)) (anyOutOfBounds areas) e in
+    let rest = neither-second (bytesOutOfBounds (x .address) (x .bytes)) (anyOutOfBounds areas) e in
+    let low : aboveTop (touched (x .address) (x .bytes)) ≡ false = neither-second (ltb addressLimit (x .bytes)) _ (neither-second (leb addressLimit (x .address)) _ here) in
+    go (x .kind) (touched (x .address) (x .bytes)) low (bytes-below areas rest)
+  where
+    go : (k : Kind) (r : FrameRange) → aboveTop r ≡ false → anyOf aboveTop (ranges (inBytes areas)) ≡ false → (aboveTop (rangeOf (marked k r)) || anyOf aboveTop (ranges (inBytes areas))) ≡ false
+    go General r low rest = rw (low, rest)
+    go Reserved r low rest = rw (low, rest)
+
+-- what an accepted boot of a fresh record says and leaves
+record First (n : ℕ) (xs : List Extent) : Type 0 where
+  number : n ≡ 0
+  left : boot n xs fresh .lists ≡ booted xs
+
+first-boot : (n : ℕ) (xs : List Extent) → boot n xs fresh .answer .number ≡ 0 → First n xs
+unfolding boot noEntries fresh entries refused counted
+first-boot n xs h = go (eqb n 0) refl h
+  where
+    go : (t : Bool) → eqb n 0 ≡ t → (if t then counted 0 (booted xs) else refused n fresh) .answer .number ≡ 0 → First n xs
+    go true e h = record { number = eqb-true _ _ e; left = rw e }
+    go false e h = absurd (eqb-false n 0 e h)
+
+-- ---- any list of calls after it
+
+module _ (xs : List Extent) (ok : Accepted xs) (some : 0 < count (booted xs .generalRegions)) where
+  told-after : (cs : List Call) → Told (λ f. anyOf (λ r. covers r f) (ranges xs)) (after cs (booted xs)) (events cs (booted xs) [])
+  unfolding held everGranted Exclusive
+  told-after cs = told (λ f. anyOf (λ r. covers r f) (ranges xs)) cs (booted xs) [] (record {
+    lawful = booted-lawful xs ok;
+    some = some;
+    known = λ f. rw or-false (booted-known xs ok f);
+    out = λ f. omega (arith, booted-free xs ok f);
+    exclusive = tt;
+  })
+
+  kept-after : (a : FrameAllocator) (ws : List ℕ) → Stands (booted xs) a ws → (cs : List Call) → Kept xs a ws cs
+  kept-after a ws s cs =
+      let r = ran cs (booted xs) a ws [] s some in
+      record {
+        answered = r .answered;
+        free = λ f. ap (timesFree f) (loads _ _ _ (r .stands)) ∙ rw (r .history-is) (free-told _ _ _ (told-after cs) f);
+        exclusive = rw (r .history-is) (told-after cs .exclusive);
+        independent = λ ds t.
+            r .counts-are
+            ∙ independent xs t (booted xs) (booted xs) (booted-lawful xs ok) (booted-lawful xs ok) some some (booted-general xs ok) refl
+            ∙ sym (ran ds (booted xs) a ws [] s some .counts-are);
+        beyond = r .beyond;
+      }
+
+  -- what the boot left stands there
+  booted-stands : (ws : List ℕ) → 4096 ≤ length ws → Stands (booted xs) (recordOf (booted xs)) (wordsOf (booted xs) ws)
+  booted-stands ws h =
+      let v = storables (booted xs) (booted-lawful xs ok) in
+      record {
+        lawful = booted-lawful xs ok;
+        records = refl;
+        words = sym (words-twice (booted xs) ws h v);
+        enough = omega (arith, words-count (booted xs) ws h v);
+      }
+
+-- the boot's own call, by its number and areas
+module _ (b : Call) (n : ℕ) (xs : List Extent) (long : shortBuffer b ≡ false) (is : answer b fresh ≡ boot n xs fresh) (accept : n ≡ 0 → Accepted xs) where
+  from-boot : (ws : List ℕ) → 4096 ≤ length ws → call b freshRecord ws .answer .number ≡ 0 → (f : ℕ) → isGeneral xs f ≡ true →
+      (cs : List Call) → Kept xs (call b freshRecord ws .allocator) (call b freshRecord ws .words) cs
+  unfolding stored
+  from-boot ws h number f general cs =
+      let first : call b freshRecord ws ≡ stored (boot n xs fresh) ws = called fresh freshRecord ws (fresh-stands ws h) b ∙ rw (long, is) in
+      let d = first-boot n xs (sym (ap (λ (o : Outcome). o .answer .number) first) ∙ number) in
+      let ok = accept (d .number) in
+      let some = booted-some xs ok f general in
+      subst (λ (o : Outcome). Kept xs (o .allocator) (o .words) cs) (sym first)
+      (subst (λ (m : Lists). Kept xs (recordOf m) (wordsOf m ws) cs) (sym (d .left))
+      (kept-after xs ok some _ _ (booted-stands xs ok some ws h) cs))
+
+pub demand-3 : Demand3
+unfolding Demand3 shortBuffer answer bootRefusal byteRefusal
+demand-3 b xs (in-frames areas) ws h number f general cs =
+    from-boot (bootCall areas) (bootRefusal (inFrames areas)) (inFrames areas) refl refl
+    (λ e. accepted (anyOf aboveTop (ranges (inFrames areas))) (inFrames areas) (λ o. o) e) ws h number f general cs
+demand-3 b xs (in-bytes areas) ws h number f general cs =
+    from-boot (bootBytesCall areas) (byteRefusal areas) (inBytes areas) refl refl
+    (λ e. accepted (anyOutOfBounds areas) (inBytes areas) (bytes-below areas) e) ws h number f general cs

@@ -1,0 +1,50 @@
+-- The same operations in the library's terms, for the proofs of code over arrays and slices.
+use Prim.Native.Nat.{ℕ, zero, suc, _+_, _-_, _≤_, _<_}
+use native.Mathlib.Omega.{arith}
+use mathlib.Core.Path.{_≡_, refl, sym, ap, _∙_}
+use mathlib.Core.Bool.{Bool, true, false}
+use mathlib.Core.List.{List, [], _∷_, _++_}
+use lib.ListN.{length, take, drop, set, getD}
+use Rattle.memory_structs.specs.Choice.{if_then_else_}
+use Rattle.memory_structs.specs.Range.{range, empty}
+use Rattle.model.specs.Lists.{Slot, unused, used, entries, rangeAt, removeOne, remove, replaceAt}
+use Rattle.memory_structs.specs.declared.range.FrameRange.{FrameRange}
+
+pub replace-set : (i : ℕ) (r : FrameRange) (s : List Slot) → replaceAt i r s ≡ set s i (used r)
+unfolding replaceAt
+replace-set i r [] = refl
+replace-set zero r (x ∷ s) = refl
+replace-set (suc i) r (x ∷ s) = cc (replace-set i r s)
+
+pub remove-set : (i : ℕ) (s : List Slot) → removeOne false i s ≡ set s i unused
+unfolding removeOne
+remove-set i [] = refl
+remove-set zero (x ∷ s) = refl
+remove-set (suc i) (x ∷ s) = cc (remove-set i s)
+
+pub remove-drop : (i : ℕ) (s : List Slot) → removeOne true i s ≡ take i s ++ drop (suc i) s
+unfolding removeOne
+remove-drop zero [] = refl
+remove-drop (suc i) [] = refl
+remove-drop zero (x ∷ s) = refl
+remove-drop (suc i) (x ∷ s) = cc (remove-drop i s)
+
+pub remove-two : (i : ℕ) (s : List Slot) → remove true i 2 s ≡ take i s ++ drop (suc (suc i)) s
+unfolding remove removeOne
+remove-two zero [] = refl
+remove-two (suc i) [] = refl
+remove-two zero (x ∷ []) = refl
+remove-two zero (x ∷ (y ∷ s)) = refl
+remove-two (suc i) (x ∷ s) = cc (remove-two i s)
+
+unfoldable pub rangeIn : Slot → FrameRange
+rangeIn unused = empty
+rangeIn (used r) = r
+
+pub range-at : (i : ℕ) (s : List Slot) → rangeAt s i ≡ rangeIn (getD s i unused)
+unfolding rangeAt rangeIn
+range-at i [] = refl
+range-at zero (unused ∷ s) = refl
+range-at zero (used r ∷ s) = refl
+range-at (suc i) (unused ∷ s) = range-at i s
+range-at (suc i) (used r ∷ s) = range-at i s
