@@ -1,16 +1,16 @@
 -- The held list: its runs are the maximal runs of held frames, each once, and heldStarts has their first frames.
-use Prim.Native.Nat.{ℕ, zero, suc, _+_, _-_, _≤_, _<_}
+use Prim.Native.Nat.{ℕ, zero, suc, _+_, _-_, _*_, _≤_, _<_}
 use native.Mathlib.Omega.{arith}
 use mathlib.Core.Path.{_≡_, refl, sym, ap, _∙_}
 use mathlib.Core.Bool.{Bool, true, false, not, _&&_, _||_, true≢false, false≢true}
 use mathlib.Core.List.{List, [], _∷_, _++_}
-use lib.ListN.{length, length-append}
+use lib.ListN.{length, drop, length-append, length-drop}
 use lib.Dec.{leb, eqb}
 use borrow.Author.Tests.{leb-true, leb-false, eqb-true, eqb-false, eq-eqb, ne-eqb, not-true}
 use Rattle.memory_structs.specs.Choice.{if_then_else_}
 use Rattle.memory_structs.specs.Range.{range, covers, top}
 use Rattle.model.specs.Lists.{Lists, Slot, unused, used, entries, anyOf, bound, times}
-use Rattle.model.specs.Queries.{isHeld, begins, atRegions, aboveChunks, heldStarts, Run, AllRuns, HeldList}
+use Rattle.model.specs.Queries.{isHeld, begins, atRegions, aboveChunks, heldStarts, Run, AllRuns, HeldList, pairs, written}
 use Rattle.memory_structs.proofs.Bools.{if-cases, both, both-first, both-second}
 use Rattle.memory_structs.proofs.Bounds.{same-ends}
 use Rattle.memory_structs.proofs.Cover.{cov, cov-in, cov-below, cov-above, cov-cases, covers-low, covers-high, covers-between}
@@ -496,3 +496,14 @@ module _ {l : Lists} (a : Lawful l) where
     no-longer (firsts rs) (heldStarts l) (λ f. omega (arith, firsts-once h f, begins-once a f)),
     no-longer (heldStarts l) (firsts rs) (λ f. omega (arith, firsts-once h f, begins-once a f)),
   )
+
+-- the pairs of a held list fit in its buffer, which keeps its length
+pairs-length : (rs : List FrameRange) → length (pairs rs) ≡ 2 * length rs
+unfolding pairs
+pairs-length [] = refl
+pairs-length (r ∷ rs) = omega (arith, pairs-length rs)
+
+pub written-length : {l : Lists} {rs : List FrameRange} → Lawful l → HeldList l rs → (buffer : List ℕ) → 2048 ≤ length buffer → length (written rs buffer) ≡ length buffer
+unfolding written
+written-length {l} {rs} a h buffer n =
+    simp (length-append, length-drop) (omega (arith, pairs-length rs, held-count a h, few-held a))

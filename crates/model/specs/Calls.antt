@@ -1,5 +1,6 @@
 -- The calls: what each answers and what it leaves, on lists and then on a record and its workspace. The words in quotes are document 01's.
 use Prim.Native.Nat.{ℕ, _+_}
+use mathlib.Core.Path.{_≡_}
 use mathlib.Core.Bool.{Bool, true, false, not, _&&_, _||_}
 use mathlib.Core.List.{List, [], _∷_}
 use lib.ListN.{length, replicate}
@@ -11,7 +12,7 @@ use Rattle.model.specs.Lists.{Lists, Slot, unused, entries}
 use Rattle.model.specs.Boot.{Extent, inFrames, inBytes, bootRefusal, byteRefusal, booted}
 use Rattle.model.specs.Requests.{Result, refused, counted, byCount, byBytes, byAddress, byAddressBytes, byAddressGeneral}
 use Rattle.model.specs.Returns.{giveBack, sort}
-use Rattle.model.specs.Queries.{kindOf, total, heldRuns}
+use Rattle.model.specs.Queries.{kindOf, total, heldRuns, HeldWritten}
 use Rattle.model.specs.Rules.{rules}
 use Rattle.model.specs.Store.{load, recordOf, wordsOf, storeRules}
 use Rattle.model.specs.declared.Answer.{Answer}
@@ -99,6 +100,11 @@ unfoldable pub call : Call → FrameAllocator → List ℕ → Outcome
 call c a ws =
     if ltb (length ws) 4096 || shortBuffer c then kept 3 a ws else
     if keepsRules a ws then stored (answer c (load a ws)) ws else kept 11 a ws
+
+-- and what it leaves of the held list's buffer, the one other thing that is lent: "record, workspace and buffers keep every value"
+pub record BufferAfter (a : FrameAllocator) (ws before after : List ℕ) : Type 0 where
+  pub accepted : call (heldCall (length before)) a ws .answer .number ≡ 0 → HeldWritten (load a ws) before after
+  pub refused : (call (heldCall (length before)) a ws .answer .number ≡ 0 → ⊥) → after ≡ before
 
 -- "A fresh record is in early form with every slot unused."
 unfoldable pub fresh : Lists

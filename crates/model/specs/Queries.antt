@@ -3,7 +3,7 @@ use Prim.Native.Nat.{ℕ, _+_, _-_, _≤_}
 use mathlib.Core.Path.{_≡_}
 use mathlib.Core.Bool.{Bool, true, false, not, _&&_, _||_}
 use mathlib.Core.List.{List, [], _∷_, _++_}
-use lib.ListN.{length}
+use lib.ListN.{length, drop}
 use lib.Dec.{eqb}
 use Rattle.memory_structs.specs.Choice.{if_then_else_}
 use Rattle.memory_structs.specs.Range.{covers, meets, aboveTop}
@@ -69,3 +69,17 @@ AllRuns l (r ∷ rs) = Run l r × AllRuns l rs
 pub record HeldList (l : Lists) (rs : List FrameRange) : Type 0 where
   pub runs : AllRuns l rs
   pub once : (f : ℕ) → times f rs ≡ (if isHeld l f then 1 else 0)
+
+-- "as pairs of words; buffer words after the last pair keep their values"
+unfoldable pub pairs : List FrameRange → List ℕ
+pairs [] = []
+pairs (r ∷ rs) = r .start ∷ r .end ∷ pairs rs
+
+unfoldable pub written : List FrameRange → List ℕ → List ℕ
+written rs buffer = pairs rs ++ drop (length (pairs rs)) buffer
+
+-- what an accepted held list leaves of its buffer: the runs in an order of the program's own choice
+pub record HeldWritten (l : Lists) (before after : List ℕ) : Type 0 where
+  pub list : List FrameRange
+  pub held : HeldList l list
+  pub words : after ≡ written list before
