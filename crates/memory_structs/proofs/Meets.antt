@@ -1,9 +1,8 @@
 -- When two ranges meet: some frame is in both, and `common` has just those frames.
 use Prim.Native.Nat.{ℕ, _≤_, min, max}
 use native.Mathlib.Omega.{arith}
-use mathlib.Core.Path.{_≡_, refl, sym, _∙_}
-use mathlib.Core.Bool.{Bool, true, false, _&&_}
-use lib.Dec.{leb}
+use mathlib.Core.Path.{_≡_}
+use mathlib.Core.Bool.{true}
 use borrow.Author.Tests.{leb-true, le-leb}
 use Rattle.memory_structs.specs.Range.{covers, meets, common}
 use Rattle.memory_structs.specs.declared.range.FrameRange.{FrameRange}

@@ -1,15 +1,15 @@
 -- What an accepted boot leaves.
 use Prim.Native.Nat.{ℕ, zero, suc, _+_, _-_, _≤_, _<_, min, max}
 use native.Mathlib.Omega.{arith}
-use mathlib.Core.Path.{_≡_, refl, sym, ap, _∙_}
-use mathlib.Core.Bool.{Bool, true, false, not, _&&_, _||_, and-eq-true-iff, true≢false, false≢true}
+use mathlib.Core.Path.{_≡_, refl, ap, _∙_}
+use mathlib.Core.Bool.{Bool, true, false, not, _&&_, _||_, and-eq-true-iff}
 use mathlib.Core.List.{List, [], _∷_, _++_}
 use lib.ListN.{length, replicate, length-append, length-replicate}
 use lib.Dec.{leb, ltb, eqb}
-use borrow.Author.Tests.{ltb-true, ltb-false, leb-true, leb-false, eqb-true, eqb-false, le-leb, lt-ltb, not-true, not-false}
+use borrow.Author.Tests.{ltb-true, ltb-false, leb-true, leb-false, not-true}
 use Rattle.memory_structs.specs.Choice.{if_then_else_}
-use Rattle.memory_structs.specs.Range.{range, covers, meets, hull, empty, isEmpty, aboveTop, top, size}
-use Rattle.model.specs.Lists.{Lists, Slot, unused, used, entries, anyOf, disjoint, bound}
+use Rattle.memory_structs.specs.Range.{range, covers, meets, hull, isEmpty, aboveTop, top, size}
+use Rattle.model.specs.Lists.{unused, entries, anyOf, disjoint, bound}
 use Rattle.model.specs.Carving.{piece, past, walk, carve, pieces}
 use Rattle.model.specs.Boot.{Extent, general, reserved, reservedOf, allPieces, grown, left, pass, joined, join, slots, early, ranges, rangeOf, refusal, booted}
 use Rattle.model.specs.History.{generalRanges, isGeneral}

@@ -1,16 +1,15 @@
 -- From lists to a record and its words: each call on what stands there is the call on the lists, stored.
-use Prim.Native.Nat.{ℕ, zero, suc, _+_, _-_, _≤_, _<_}
+use Prim.Native.Nat.{ℕ, _-_, _≤_, _<_}
 use native.Mathlib.Omega.{arith}
 use mathlib.Core.Path.{_≡_, refl, sym, ap, subst, _∙_}
-use mathlib.Core.Bool.{Bool, true, false, not, _&&_, _||_, false≢true}
+use mathlib.Core.Bool.{Bool, true, false, false≢true}
 use mathlib.Core.List.{List, [], _∷_}
 use lib.ListN.{length, drop}
-use lib.Dec.{ltb}
 use borrow.Author.Tests.{le-ltb}
 use Rattle.memory_structs.specs.Choice.{if_then_else_}
 use Rattle.memory_structs.proofs.Bools.{both}
 use Rattle.model.specs.Lists.{Lists}
-use Rattle.model.specs.Requests.{Result, counted}
+use Rattle.model.specs.Requests.{counted}
 use Rattle.model.specs.Queries.{heldRuns}
 use Rattle.model.specs.Rules.{rules}
 use Rattle.model.specs.Store.{load, recordOf, wordsOf, storeRules}
@@ -20,7 +19,6 @@ use Rattle.model.specs.declared.Answer.{Answer}
 use Rattle.model.specs.declared.FrameAllocator.{FrameAllocator}
 use Rattle.model.proofs.Cover.{count}
 use Rattle.model.proofs.Lawful.{Lawful}
-use Rattle.model.proofs.Steps.{Step}
 use Rattle.model.proofs.Returns.{step}
 use Rattle.model.proofs.Ruled.{lawful-rules}
 use Rattle.model.proofs.Runs.{after, events, counts}

@@ -1,24 +1,23 @@
 -- Demand 3, proved: `demand-3`.
-use Prim.Native.Nat.{ℕ, zero, suc, _+_, _-_, _≤_, _<_}
+use Prim.Native.Nat.{ℕ, _-_, _≤_, _<_}
 use native.Mathlib.Omega.{arith}
 use mathlib.Core.Path.{_≡_, refl, sym, ap, subst, _∙_}
-use mathlib.Core.Bool.{Bool, true, false, not, _&&_, _||_, or-false}
-use mathlib.Core.List.{List, [], _∷_, _++_}
-use lib.ListN.{length, take, drop}
+use mathlib.Core.Bool.{Bool, true, false, _||_, or-false}
+use mathlib.Core.List.{List, [], _∷_}
+use lib.ListN.{length}
 use lib.Dec.{leb, ltb, eqb}
 use borrow.Author.Tests.{eqb-true, eqb-false}
 use Rattle.memory_structs.specs.Choice.{if_then_else_}
 use Rattle.memory_structs.specs.Range.{covers, aboveTop, touched, bytesOutOfBounds, addressLimit}
 use Rattle.memory_structs.proofs.Bools.{neither-first, neither-second}
 use Rattle.memory_structs.specs.declared.range.FrameRange.{FrameRange}
-use Rattle.model.specs.Lists.{Lists, entries, anyOf, allOf, disjoint, bound, inUnion}
-use Rattle.model.specs.Boot.{Extent, marked, inFrames, inBytes, ranges, rangeOf, refusal, bootRefusal, anyOutOfBounds, byteRefusal, booted}
-use Rattle.model.specs.Requests.{Result, refused, counted}
+use Rattle.model.specs.Lists.{Lists, entries, anyOf, allOf, disjoint, bound}
+use Rattle.model.specs.Boot.{Extent, marked, inFrames, inBytes, ranges, rangeOf, bootRefusal, anyOutOfBounds, byteRefusal, booted}
+use Rattle.model.specs.Requests.{refused, counted}
 use Rattle.model.specs.Rules.{rules, tidy, slotted}
-use Rattle.model.specs.Store.{part, load, recordOf, wordsOf, wordsIn}
-use Rattle.model.specs.Calls.{Call, bootCall, bootBytesCall, Outcome, answer, boot, noEntries, shortBuffer, kept, stored, call, fresh, freshRecord}
-use Rattle.model.specs.History.{held, everGranted, Exclusive, isGeneral, timesFree, Struck, Boots, in-frames, in-bytes, Kept, Demand3}
-use Rattle.model.specs.declared.Answer.{Answer}
+use Rattle.model.specs.Store.{recordOf, wordsOf, wordsIn}
+use Rattle.model.specs.Calls.{Call, bootCall, bootBytesCall, Outcome, answer, boot, noEntries, shortBuffer, stored, call, fresh, freshRecord}
+use Rattle.model.specs.History.{held, everGranted, Exclusive, isGeneral, timesFree, in-frames, in-bytes, Kept, Demand3}
 use Rattle.model.specs.declared.ByteArea.{ByteArea}
 use Rattle.model.specs.declared.Kind.{Kind}
 use Rattle.model.specs.declared.Kind.the-variants.{General, Reserved}
@@ -26,12 +25,12 @@ use Rattle.model.specs.declared.FrameAllocator.{FrameAllocator}
 use Rattle.model.proofs.Cover.{count}
 use Rattle.model.proofs.Lawful.{Lawful}
 use Rattle.model.proofs.Ruled.{rules-lawful}
-use Rattle.model.proofs.Runs.{after, events, counts}
+use Rattle.model.proofs.Runs.{after, events}
 use Rattle.model.proofs.Trace.{Told, told, free-told}
 use Rattle.model.proofs.Independent.{independent}
 use Rattle.model.proofs.Boots.{Accepted, accepted, booted-lawful, booted-known, booted-free, booted-general, booted-some}
-use Rattle.model.proofs.Whole.{storables, words-beyond, words-count, words-twice, part-then}
-use Rattle.model.proofs.Carried.{Stands, loads, called, Ran, ran}
+use Rattle.model.proofs.Whole.{storables, words-count, words-twice, part-then}
+use Rattle.model.proofs.Carried.{Stands, loads, called, ran}
 
 -- ---- the first call: an accepted boot of a fresh record
 

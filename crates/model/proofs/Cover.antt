@@ -1,17 +1,15 @@
 -- How often the slots of a list cover a frame, and what each operation on a list does to that.
-use Prim.Native.Nat.{ℕ, zero, suc, _+_, _-_, _≤_, _<_, min, max}
+use Prim.Native.Nat.{ℕ, zero, suc, _+_, _-_, _≤_, _<_}
 use native.Mathlib.Omega.{arith}
-use mathlib.Core.Path.{_≡_, refl, sym, ap, _∙_}
-use mathlib.Core.Bool.{Bool, true, false, not, _&&_, _||_, and-eq-true-iff}
-use mathlib.Core.List.{List, [], _∷_, _++_}
-use lib.ListN.{length, replicate}
-use lib.Dec.{leb, ltb, eqb}
-use borrow.Author.Tests.{ltb-true, ltb-false, leb-true, leb-false, eqb-true, eqb-false, le-leb, lt-leb}
+use mathlib.Core.Path.{_≡_, refl, ap}
+use mathlib.Core.Bool.{Bool, true, false}
+use mathlib.Core.List.{List, [], _∷_}
+use lib.ListN.{length}
+use lib.Dec.{ltb}
 use Rattle.memory_structs.specs.Choice.{if_then_else_}
-use Rattle.memory_structs.specs.Range.{range, covers, meets, empty}
 use Rattle.memory_structs.proofs.Bools.{if-cases}
 use Rattle.memory_structs.proofs.Cover.{cov, cov-empty, covers-bit}
-use Rattle.model.specs.Lists.{Slot, unused, used, entries, anyOf, Place, nowhere, at, firstWhere, lastWhere, later, orElse, rangeAt, insert, insertEarly, insertSorted, remove, removeOne, replaceAt, bound, times}
+use Rattle.model.specs.Lists.{Slot, unused, used, entries, Place, nowhere, at, firstWhere, lastWhere, later, orElse, rangeAt, insertEarly, insertSorted, removeOne, replaceAt, times}
 use Rattle.memory_structs.specs.declared.range.FrameRange.{FrameRange}
 
 unfoldable pub tally : ℕ → List Slot → ℕ

@@ -1,13 +1,11 @@
 -- The same operations in the library's terms, for the proofs of code over arrays and slices.
-use Prim.Native.Nat.{ℕ, zero, suc, _+_, _-_, _≤_, _<_}
-use native.Mathlib.Omega.{arith}
-use mathlib.Core.Path.{_≡_, refl, sym, ap, _∙_}
-use mathlib.Core.Bool.{Bool, true, false}
+use Prim.Native.Nat.{ℕ, zero, suc, _+_, _-_}
+use mathlib.Core.Path.{_≡_, refl}
+use mathlib.Core.Bool.{true, false}
 use mathlib.Core.List.{List, [], _∷_, _++_}
-use lib.ListN.{length, take, drop, set, getD}
-use Rattle.memory_structs.specs.Choice.{if_then_else_}
-use Rattle.memory_structs.specs.Range.{range, empty}
-use Rattle.model.specs.Lists.{Slot, unused, used, entries, rangeAt, removeOne, remove, replaceAt}
+use lib.ListN.{take, drop, set, getD}
+use Rattle.memory_structs.specs.Range.{empty}
+use Rattle.model.specs.Lists.{Slot, unused, used, rangeAt, removeOne, remove, replaceAt}
 use Rattle.memory_structs.specs.declared.range.FrameRange.{FrameRange}
 
 pub replace-set : (i : ℕ) (r : FrameRange) (s : List Slot) → replaceAt i r s ≡ set s i (used r)

@@ -1,27 +1,25 @@
 -- The general half of the lists, and the count answers, do not hang on calls that name no general frame.
-use Prim.Native.Nat.{ℕ, zero, suc, _+_, _-_, _≤_, _<_, min, max, _/_, _%_}
+use Prim.Native.Nat.{ℕ, _+_, _-_, _≤_, _<_, min, max, _/_, _%_}
 use native.Mathlib.Omega.{arith}
 use mathlib.Core.Path.{_≡_, refl, sym, ap, _∙_}
 use mathlib.Core.Bool.{Bool, true, false, not, _&&_, _||_, and-eq-true-iff, true≢false, false≢true}
-use mathlib.Core.List.{List, [], _∷_, _++_}
-use lib.ListN.{length}
+use mathlib.Core.List.{List, [], _∷_}
 use lib.Dec.{leb, ltb, eqb}
-use borrow.Author.Tests.{ltb-true, ltb-false, leb-true, leb-false, eqb-true, eqb-false, le-leb, lt-ltb, not-false}
+use borrow.Author.Tests.{ltb-false, leb-true, leb-false, eqb-true, eqb-false, le-leb, lt-ltb, not-false}
 use Rattle.memory_structs.specs.Choice.{if_then_else_}
-use Rattle.memory_structs.specs.Range.{range, covers, meets, empty, isEmpty, aboveTop, top, frameSize, addressLimit, size}
+use Rattle.memory_structs.specs.Range.{range, covers, meets, isEmpty, aboveTop, top, frameSize, addressLimit}
 use Rattle.model.specs.Lists.{Lists, Slot, unused, used, entries, anyOf, Place, nowhere, at, insert, bound, inUnion}
-use Rattle.model.specs.Requests.{Result, refused, refusedMissing, counted, granted, Found, notFound, missing, tooShort, chunks, find, grantFrom, entriesAfter, withGeneral, withReserved, takeGeneral, takeReserved, fromPlace, largeEnough, byCount, byBytes, framesOf, fromGrown, noRoomToGrow, grow, inGeneral, inReserved, byAddress, byAddressBytes, onlyGeneral, byAddressGeneral}
-use Rattle.model.specs.Returns.{given, noPlace, giveGeneral, giveReserved, giveBack, sortedOf, sort}
+use Rattle.model.specs.Requests.{Result, refused, refusedMissing, counted, granted, Found, notFound, missing, tooShort, chunks, find, grantFrom, entriesAfter, withReserved, takeGeneral, takeReserved, fromPlace, largeEnough, byCount, byBytes, framesOf, fromGrown, noRoomToGrow, grow, inGeneral, inReserved, byAddress, byAddressBytes, onlyGeneral, byAddressGeneral}
+use Rattle.model.specs.Returns.{given, noPlace, giveGeneral, giveReserved, giveBack, sort}
 use Rattle.model.specs.Queries.{kindOf, total, heldRuns}
 use Rattle.model.specs.Boot.{Extent, inFrames, inBytes, bootRefusal, byteRefusal}
 use Rattle.model.specs.Calls.{Call, bootCall, bootBytesCall, sortCall, countCall, countBytesCall, addressCall, addressBytesCall, generalCall, returnCall, kindCall, totalCall, heldCall, answer, boot, noEntries}
 use Rattle.model.specs.History.{isGeneral, namesFrames, asks, MayStrike, Struck, end, keep, strike, isCount}
 use Rattle.model.proofs.Runs.{counts}
-use Rattle.memory_structs.proofs.Cover.{cov, cov-in, cov-cases}
+use Rattle.memory_structs.proofs.Cover.{cov-in}
 use Rattle.memory_structs.proofs.Bools.{if-cases}
 use Rattle.model.proofs.Cover.{tally, count, if-two}
-use Rattle.model.proofs.Lawful.{Sound, Shape, Lawful, Holds, Fit, find-fit, or-no, apart-tally, union-tally}
-use Rattle.model.proofs.Steps.{Step}
+use Rattle.model.proofs.Lawful.{Lawful, Holds, Fit, find-fit, union-tally}
 use Rattle.model.proofs.Returns.{step}
 use Rattle.memory_structs.specs.declared.range.FrameRange.{FrameRange}
 use Rattle.model.specs.declared.Answer.{Answer}

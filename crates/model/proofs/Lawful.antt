@@ -1,20 +1,20 @@
 -- What every call keeps, and what each operation on one list keeps of it.
 use Prim.Native.Nat.{ℕ, zero, suc, _+_, _-_, _≤_, _<_, min, max}
 use native.Mathlib.Omega.{arith}
-use mathlib.Core.Path.{_≡_, refl, sym, ap, _∙_}
-use mathlib.Core.Bool.{Bool, true, false, not, _&&_, _||_, and-eq-true-iff, true≢false, false≢true}
-use mathlib.Core.List.{List, [], _∷_, _++_}
-use lib.ListN.{length, replicate}
+use mathlib.Core.Path.{_≡_, refl, _∙_}
+use mathlib.Core.Bool.{Bool, true, false, _&&_, _||_, and-eq-true-iff, true≢false, false≢true}
+use mathlib.Core.List.{List, [], _∷_}
+use lib.ListN.{length}
 use lib.Dec.{leb, ltb, eqb}
-use borrow.Author.Tests.{ltb-true, ltb-false, leb-true, leb-false, eqb-true, eqb-false, le-leb, lt-leb}
+use borrow.Author.Tests.{ltb-true, ltb-false, leb-true, leb-false, eqb-true}
 use Rattle.memory_structs.specs.Choice.{if_then_else_}
-use Rattle.memory_structs.specs.Range.{range, covers, meets, empty, isEmpty, top, size}
-use Rattle.model.specs.Lists.{Lists, Slot, unused, used, entries, anyOf, Place, nowhere, at, firstWhere, lastWhere, later, orElse, rangeAt, insert, insertEarly, insertSorted, remove, removeOne, replaceAt, bound, holder, spanned, inUnion}
+use Rattle.memory_structs.specs.Range.{range, covers, meets, isEmpty, top}
+use Rattle.model.specs.Lists.{Lists, Slot, unused, used, entries, anyOf, Place, nowhere, at, rangeAt, insert, insertEarly, insertSorted, remove, removeOne, bound, holder, spanned, inUnion}
 use Rattle.model.specs.Requests.{Found, notFound, missing, tooShort, chunks, find, inEarly, inSorted, withNext, grantFrom, putBefore, putAfter, entriesAfter}
 use Rattle.model.proofs.Cover
-use Rattle.memory_structs.proofs.Cover.{cov, cov-in, cov-below, cov-above, cov-empty, cov-cut, cov-cases}
+use Rattle.memory_structs.proofs.Cover.{cov, cov-in, cov-empty, cov-cut, cov-cases}
 use Rattle.memory_structs.proofs.Bools.{if-cases}
-use Rattle.model.proofs.Cover.{tally, count, Hit, Used, first-hit, last-hit, remove-tally, remove-fewer, remove-length, below-removed, early-tally, early-count, early-length, sorted-tally, sorted-count, rangeAt-tally}
+use Rattle.model.proofs.Cover.{tally, count, Hit, Used, first-hit, last-hit, remove-tally, remove-length, below-removed, early-tally, early-count, early-length, sorted-tally, sorted-count, rangeAt-tally}
 use Rattle.memory_structs.specs.declared.range.FrameRange.{FrameRange}
 
 pub record Sound (r : FrameRange) : Type 0 where

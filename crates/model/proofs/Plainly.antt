@@ -1,8 +1,8 @@
 -- The test of the list rules says what document 01 says of frames: `rules-plain` and `plain-rules`.
 use Prim.Native.Nat.{ℕ, zero, suc, _+_, _≤_, _<_}
 use native.Mathlib.Omega.{arith}
-use mathlib.Core.Path.{_≡_, refl, sym, ap, _∙_}
-use mathlib.Core.Bool.{Bool, true, false, _||_, true≢false, false≢true}
+use mathlib.Core.Path.{_≡_, refl, ap}
+use mathlib.Core.Bool.{Bool, true, false, _||_, false≢true}
 use mathlib.Core.List.{List, [], _∷_}
 use lib.ListN.{length}
 use Rattle.memory_structs.specs.Choice.{if_then_else_}
@@ -11,7 +11,7 @@ use Rattle.memory_structs.specs.declared.range.FrameRange.{FrameRange}
 use Rattle.model.specs.Lists.{Lists, Slot, unused, used, entries, anyOf, times, bound}
 use Rattle.model.specs.Rules.{rules, Each, Ascending, InForm, In, PlainList, PlainRules}
 use Rattle.model.proofs.Cover.{tally, count, times-tally}
-use Rattle.model.proofs.Lawful.{Sound, AllSound, Rising, Slots, Shape, Lawful}
+use Rattle.model.proofs.Lawful.{AllSound, Rising, Slots, Shape}
 use Rattle.model.proofs.Ruled.{rules-lawful, lawful-rules}
 
 -- a frame is in one of the ranges just where it is in some number of them

@@ -1,28 +1,26 @@
 -- The same for returns and the other calls, and so for every call.
-use Prim.Native.Nat.{ℕ, zero, suc, _+_, _-_, _≤_, _<_, min, max, _/_, _%_}
+use Prim.Native.Nat.{ℕ, zero, suc, _+_, _-_, _≤_, _<_}
 use native.Mathlib.Omega.{arith}
-use mathlib.Core.Path.{_≡_, refl, sym, ap, _∙_}
-use mathlib.Core.Bool.{Bool, true, false, not, _&&_, _||_, and-eq-true-iff, true≢false, false≢true}
-use mathlib.Core.List.{List, [], _∷_, _++_}
-use lib.ListN.{length, replicate}
-use lib.Dec.{leb, ltb, eqb}
-use borrow.Author.Tests.{ltb-true, ltb-false, leb-true, leb-false, eqb-true, eqb-false, le-leb, lt-leb, not-false}
+use mathlib.Core.Path.{_≡_, refl}
+use mathlib.Core.Bool.{Bool, true, false, not, _||_}
+use mathlib.Core.List.{List, [], _∷_}
+use lib.Dec.{leb, eqb}
+use borrow.Author.Tests.{ltb-true, ltb-false, leb-true, leb-false, eqb-true, not-false}
 use Rattle.memory_structs.specs.Choice.{if_then_else_}
-use Rattle.memory_structs.specs.Range.{range, covers, meets, empty, isEmpty, aboveTop, top, size}
-use Rattle.model.specs.Lists.{Lists, Slot, unused, used, entries, anyOf, Place, nowhere, at, firstWhere, lastWhere, rangeAt, insert, insertSorted, remove, removeOne, replaceAt, bound, inUnion}
-use Rattle.model.specs.Requests.{Result, refused, refusedMissing, counted, granted, Found, notFound, missing, tooShort, chunks, find, grantFrom, entriesAfter, withReserved, takeGeneral, takeReserved, fromPlace, largeEnough, byCount, byBytes, framesOf, fromGrown, noRoomToGrow, grow, inGeneral, inReserved, byAddress, byAddressBytes, onlyGeneral, byAddressGeneral}
-use Rattle.model.specs.History.{Event, nothing, grant, give, ifAccepted, event}
+use Rattle.memory_structs.specs.Range.{range, meets, isEmpty, aboveTop}
+use Rattle.model.specs.Lists.{Lists, Slot, unused, used, entries, anyOf, Place, nowhere, at, rangeAt, replaceAt, bound, inUnion}
+use Rattle.model.specs.Requests.{Result, refused, counted}
+use Rattle.model.specs.History.{nothing, give, ifAccepted, event}
 use Rattle.model.specs.Returns.{joinBelow, joinAbove, rejoin, given, noPlace, giveGeneral, giveReserved, giveBack, sortedOf, sort}
 use Rattle.model.specs.Queries.{kindOf, total, heldRuns}
 use Rattle.model.specs.Calls.{Call, bootCall, bootBytesCall, sortCall, countCall, countBytesCall, addressCall, addressBytesCall, generalCall, returnCall, kindCall, totalCall, heldCall, answer, boot, noEntries}
-use Rattle.model.specs.Boot.{Extent, inFrames, inBytes, bootRefusal, byteRefusal, booted}
-use Rattle.model.proofs.Steps.{takes, gives, free, regions, Step, stay, swap-general, swap-reserved, by-count, by-bytes, by-address, by-address-bytes, by-address-general}
-use Rattle.memory_structs.proofs.Cover.{cov, cov-in, cov-below, cov-above, cov-empty, cov-cut, cov-cases}
+use Rattle.model.specs.Boot.{Extent, inFrames, inBytes, bootRefusal, byteRefusal}
+use Rattle.model.proofs.Steps.{takes, gives, free, Step, stay, swap-general, swap-reserved, by-count, by-bytes, by-address, by-address-bytes, by-address-general}
+use Rattle.memory_structs.proofs.Cover.{cov, cov-in, cov-cut, cov-cases}
 use Rattle.memory_structs.proofs.Bools.{if-cases}
-use Rattle.model.proofs.Cover.{tally, count, Hit, Used, first-hit, last-hit, sorted-tally, sorted-count, replace-tally, replace-count, rangeAt-tally}
-use Rattle.model.proofs.Lawful.{Sound, AllSound, Rising, Slots, Shape, Lawful, insert-tally, insert-count, insert-shape, Room, room, Holds, Granted, grant-from, one-holds, Fit, find-fit, or-no, apart-tally, union-tally, sound-at, sorted-rising, sorted-sound, rising-from}
+use Rattle.model.proofs.Cover.{tally, count, Hit, Used, first-hit, sorted-tally, sorted-count, replace-tally, rangeAt-tally}
+use Rattle.model.proofs.Lawful.{Sound, AllSound, Rising, Shape, Lawful, insert-tally, insert-count, insert-shape, or-no, apart-tally, union-tally, sound-at, sorted-rising, sorted-sound, rising-from}
 use Rattle.memory_structs.specs.declared.range.FrameRange.{FrameRange}
-use Rattle.model.specs.declared.Answer.{Answer}
 use Rattle.model.specs.declared.Kind.the-variants.{General, Reserved}
 
 -- replacing an entry

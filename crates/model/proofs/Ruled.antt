@@ -1,21 +1,20 @@
 -- The list rules' test is the invariant of the claim.
-use Prim.Native.Nat.{ℕ, zero, suc, _+_, _-_, _≤_, _<_, min, max}
+use Prim.Native.Nat.{ℕ, zero, suc, _+_, _-_, _≤_, _<_}
 use native.Mathlib.Omega.{arith}
-use mathlib.Core.Path.{_≡_, refl, sym, ap, _∙_}
-use mathlib.Core.Bool.{Bool, true, false, not, _&&_, _||_, and-eq-true-iff, true≢false, false≢true}
-use mathlib.Core.List.{List, [], _∷_, _++_}
-use lib.ListN.{length}
-use lib.Dec.{leb, ltb, eqb}
-use borrow.Author.Tests.{ltb-true, ltb-false, leb-true, leb-false, eqb-true, eqb-false, le-leb, lt-leb, lt-ltb, le-ltb, eq-eqb, not-true, not-false}
+use mathlib.Core.Path.{_≡_, refl, ap}
+use mathlib.Core.Bool.{Bool, true, false, not, _&&_, and-eq-true-iff, false≢true}
+use mathlib.Core.List.{List, [], _∷_}
+use lib.Dec.{leb}
+use borrow.Author.Tests.{leb-true, leb-false, eqb-true, le-leb, lt-leb, le-ltb, eq-eqb, not-true}
 use Rattle.memory_structs.specs.Choice.{if_then_else_}
-use Rattle.memory_structs.specs.Range.{range, covers, meets, empty, isEmpty, top}
+use Rattle.memory_structs.specs.Range.{covers, meets, top}
 use Rattle.model.specs.Lists.{Lists, Slot, unused, used, entries, anyOf, allOf, disjoint, bound, holder, spanned, inUnion}
 use Rattle.model.specs.Rules.{rising, slotted, tidy, rules}
-use Rattle.memory_structs.proofs.Cover.{cov, cov-in, cov-below, cov-above, cov-cases, cov-empty, covers-bit}
+use Rattle.memory_structs.proofs.Cover.{cov, cov-in, cov-cases, covers-bit}
 use Rattle.memory_structs.proofs.Bools.{if-cases}
 use Rattle.model.proofs.Cover.{tally, count}
-use Rattle.model.proofs.Lawful.{Sound, AllSound, Rising, Slots, Shape, Lawful, or-no, apart-tally, union-tally}
-use Rattle.model.proofs.Independent.{Common, common}
+use Rattle.model.proofs.Lawful.{AllSound, Rising, Slots, Shape, Lawful, or-no, apart-tally, union-tally}
+use Rattle.model.proofs.Independent.{common}
 use Rattle.memory_structs.specs.declared.range.FrameRange.{FrameRange}
 
 -- the tests of one list, as facts and back

@@ -1,12 +1,11 @@
 -- Calls for one record change no other: `separate`.
 use Prim.Native.Nat.{ℕ}
-use mathlib.Core.Path.{_≡_, refl, sym, ap, subst, _∙_}
+use mathlib.Core.Path.{_≡_, refl, ap, _∙_}
 use mathlib.Core.Bool.{Bool, true, false}
 use mathlib.Core.List.{List, [], _∷_}
 use lib.Dec.{eqb}
 use borrow.Author.Tests.{eqb-true}
-use Rattle.memory_structs.specs.Choice.{if_then_else_}
-use Rattle.model.specs.Calls.{Call, Outcome, call}
+use Rattle.model.specs.Calls.{call}
 use Rattle.model.specs.History.{outcomes, recordAfter, wordsAfter, State, Tagged, outcomeOf, changed, worldAfter, own, outcomesFor, Separate}
 
 -- the state of record k after one call

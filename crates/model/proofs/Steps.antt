@@ -1,23 +1,21 @@
 -- What each call does to the covers, and that it keeps the lists lawful.
-use Prim.Native.Nat.{ℕ, zero, suc, _+_, _-_, _≤_, _<_, min, max, _/_, _%_}
+use Prim.Native.Nat.{ℕ, _+_, _-_, _≤_, _<_, _/_, _%_}
 use native.Mathlib.Omega.{arith}
-use mathlib.Core.Path.{_≡_, refl, sym, ap, _∙_}
-use mathlib.Core.Bool.{Bool, true, false, not, _&&_, _||_, and-eq-true-iff, true≢false, false≢true}
-use mathlib.Core.List.{List, [], _∷_, _++_}
-use lib.ListN.{length, replicate}
+use mathlib.Core.Path.{_≡_, refl}
+use mathlib.Core.Bool.{Bool, true, false, not, _&&_, _||_}
+use mathlib.Core.List.{List}
 use lib.Dec.{leb, ltb, eqb}
-use borrow.Author.Tests.{ltb-true, ltb-false, leb-true, leb-false, eqb-true, eqb-false, le-leb, lt-leb}
+use borrow.Author.Tests.{ltb-false, leb-true, leb-false, eqb-false}
 use Rattle.memory_structs.specs.Choice.{if_then_else_}
-use Rattle.memory_structs.specs.Range.{range, covers, meets, empty, isEmpty, aboveTop, top, frameSize, addressLimit, size}
-use Rattle.model.specs.Lists.{Lists, Slot, unused, used, entries, anyOf, Place, nowhere, at, firstWhere, lastWhere, rangeAt, insert, insertSorted, remove, removeOne, replaceAt, bound, inUnion}
-use Rattle.model.specs.Requests.{Result, refused, refusedMissing, counted, granted, Found, notFound, missing, tooShort, chunks, find, grantFrom, entriesAfter, withGeneral, withReserved, takeGeneral, takeReserved, fromPlace, largeEnough, byCount, byBytes, framesOf, fromGrown, noRoomToGrow, grow, inGeneral, inReserved, byAddress, byAddressBytes, onlyGeneral, byAddressGeneral}
+use Rattle.memory_structs.specs.Range.{range, meets, top, frameSize, addressLimit, size}
+use Rattle.model.specs.Lists.{Lists, Slot, entries, anyOf, Place, nowhere, at, rangeAt, insert, bound}
+use Rattle.model.specs.Requests.{Result, refused, refusedMissing, granted, Found, notFound, missing, tooShort, chunks, entriesAfter, withGeneral, withReserved, takeGeneral, takeReserved, fromPlace, largeEnough, byCount, byBytes, framesOf, fromGrown, noRoomToGrow, grow, inGeneral, inReserved, byAddress, byAddressBytes, onlyGeneral, byAddressGeneral}
 use Rattle.model.specs.History.{Event, nothing, grant, give, ifAccepted}
-use Rattle.memory_structs.proofs.Cover.{cov, cov-in, cov-below, cov-above, cov-empty, cov-cut, cov-cases}
+use Rattle.memory_structs.proofs.Cover.{cov, cov-in, cov-cases}
 use Rattle.memory_structs.proofs.Bools.{if-cases}
-use Rattle.model.proofs.Cover.{tally, count, Hit, Used, first-hit, last-hit}
-use Rattle.model.proofs.Lawful.{Sound, AllSound, Rising, Slots, Shape, Lawful, insert-tally, insert-count, insert-shape, Room, room, Holds, Granted, grant-from, one-holds, Fit, find-fit, or-no, apart-tally, union-tally}
+use Rattle.model.proofs.Cover.{tally, count, Hit, first-hit, last-hit}
+use Rattle.model.proofs.Lawful.{Sound, Shape, Lawful, insert-tally, insert-count, insert-shape, Room, room, Holds, grant-from, one-holds, Fit, find-fit, or-no, apart-tally}
 use Rattle.memory_structs.specs.declared.range.FrameRange.{FrameRange}
-use Rattle.model.specs.declared.Answer.{Answer}
 
 unfoldable pub takes : Event → ℕ → ℕ
 takes nothing f = 0

@@ -1,19 +1,17 @@
 -- A list, stored and read back: early slots in their arrays, and entries in the words of a table.
-use Prim.Native.Nat.{ℕ, zero, suc, _+_, _-_, _*_, _≤_, _<_}
+use Prim.Native.Nat.{ℕ, zero, suc, _+_, _-_, _*_, _≤_}
 use native.Mathlib.Omega.{arith}
-use native.Mathlib.Nat.{sub-zero}
 use mathlib.Core.Path.{_≡_, refl, sym, ap, _∙_}
-use mathlib.Core.Bool.{Bool, true, false, not, _&&_, _||_, true≢false, false≢true}
+use mathlib.Core.Bool.{Bool, true, false, _&&_, false≢true}
 use mathlib.Core.List.{List, [], _∷_, _++_, map}
-use lib.ListN.{length, take, drop, getD, replicate, length-append, length-replicate, length-map, length-drop, take-append-drop}
+use lib.ListN.{length, take, drop, replicate, length-append, length-replicate, length-map, length-drop, take-append-drop}
 use lib.Seq.{drop-at}
 use lib.Dec.{leb, eqb}
-use borrow.Author.Tests.{leb-true, eqb-true, le-leb, eq-eqb, not-true}
-use Rattle.memory_structs.specs.Range.{range, empty}
+use borrow.Author.Tests.{leb-true, eqb-true, le-leb, eq-eqb}
 use Rattle.memory_structs.specs.declared.range.FrameRange.{FrameRange}
 use Rattle.memory_structs.proofs.Bools.{both, both-first, both-second}
 use Rattle.model.specs.Lists.{Slot, unused, used}
-use Rattle.model.specs.Store.{slotOf, zipped, slotsOf, rangeIn, isUsed, earlyOf, tableSlots, slotWords, tableWords, slotsIn, earlyIn, lengthIn, wordsIn, plain, noneUsed, allZero, storedIn}
+use Rattle.model.specs.Store.{zipped, slotsOf, rangeIn, isUsed, earlyOf, tableSlots, slotWords, tableWords, slotsIn, earlyIn, lengthIn, wordsIn, plain, noneUsed, allZero, storedIn}
 use Rattle.model.specs.declared.EarlyList.{EarlyList}
 
 -- ---- early slots

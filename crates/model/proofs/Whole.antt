@@ -1,18 +1,17 @@
 -- The record and the workspace whole: lists stored are read back, and what passes the test of storing is what its lists store.
-use Prim.Native.Nat.{ℕ, zero, suc, _+_, _-_, _*_, _≤_, _<_}
+use Prim.Native.Nat.{ℕ, suc, _+_, _-_, _≤_}
 use native.Mathlib.Omega.{arith}
-use mathlib.Core.Path.{_≡_, refl, sym, ap, _∙_, subst}
-use mathlib.Core.Bool.{Bool, true, false, not, _&&_}
+use mathlib.Core.Path.{_≡_, refl, sym, ap, _∙_}
+use mathlib.Core.Bool.{Bool, true, false, _&&_}
 use mathlib.Core.List.{List, [], _∷_, _++_}
-use lib.ListN.{length, take, drop, length-append, length-take, length-drop, take-append-drop}
+use lib.ListN.{length, take, drop, length-append, length-drop, take-append-drop}
 use lib.Seq.{drop-drop, take-at, drop-at, length-take-le}
 use Rattle.memory_structs.proofs.Bools.{both, both-first, both-second}
 use Rattle.model.specs.Lists.{Lists, Slot, unused, used, entries, bound}
 use Rattle.model.specs.Store.{part, slotsIn, load, earlyIn, lengthIn, wordsIn, recordOf, wordsOf, storedIn, storeRules}
-use Rattle.model.specs.declared.EarlyList.{EarlyList}
 use Rattle.model.specs.declared.FrameAllocator.{FrameAllocator}
 use Rattle.model.proofs.Cover.{count}
-use Rattle.model.proofs.Lawful.{Rising, Slots, Shape, Lawful}
+use Rattle.model.proofs.Lawful.{Rising, Slots, Lawful}
 use Rattle.model.proofs.Stored.{AllUsed, none, one, Storable, early, sorted, part-length, slots-again, stored-test, Kept, test-kept}
 
 -- ---- lawful lists can be stored

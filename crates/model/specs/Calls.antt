@@ -1,14 +1,14 @@
 -- The calls: what each answers and what it leaves, on lists and then on a record and its workspace. The words in quotes are document 01's.
 use Prim.Native.Nat.{ℕ, _+_}
 use mathlib.Core.Path.{_≡_}
-use mathlib.Core.Bool.{Bool, true, false, not, _&&_, _||_}
-use mathlib.Core.List.{List, [], _∷_}
+use mathlib.Core.Bool.{Bool, false, not, _&&_, _||_}
+use mathlib.Core.List.{List}
 use lib.ListN.{length, replicate}
 use lib.Dec.{ltb, eqb}
 use Rattle.memory_structs.specs.Choice.{if_then_else_}
 use Rattle.memory_structs.specs.Range.{empty}
 use Rattle.memory_structs.specs.declared.range.FrameRange.{FrameRange}
-use Rattle.model.specs.Lists.{Lists, Slot, unused, entries}
+use Rattle.model.specs.Lists.{Lists, unused, entries}
 use Rattle.model.specs.Boot.{Extent, inFrames, inBytes, bootRefusal, byteRefusal, booted}
 use Rattle.model.specs.Requests.{Result, refused, counted, byCount, byBytes, byAddress, byAddressBytes, byAddressGeneral}
 use Rattle.model.specs.Returns.{giveBack, sort}

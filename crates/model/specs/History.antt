@@ -10,7 +10,7 @@ use Rattle.memory_structs.specs.Range.{covers, frameSize}
 use Rattle.memory_structs.specs.declared.range.FrameRange.{FrameRange}
 use Rattle.model.specs.Lists.{Lists, entries, anyOf, times}
 use Rattle.model.specs.Boot.{Extent, general, reserved, inFrames, inBytes, ranges, reservedOf}
-use Rattle.model.specs.Requests.{Result, framesOf}
+use Rattle.model.specs.Requests.{framesOf}
 use Rattle.model.specs.Store.{load}
 use Rattle.model.specs.Calls.{Call, bootCall, bootBytesCall, sortCall, countCall, countBytesCall, addressCall, addressBytesCall, generalCall, returnCall, kindCall, totalCall, heldCall, Outcome, answer, shortBuffer, kept, stored, call, freshRecord}
 use Rattle.model.specs.declared.Answer.{Answer}

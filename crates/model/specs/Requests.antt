@@ -1,12 +1,12 @@
 -- Requests: search, grant, growth. The words in quotes are document 01's, mostly of "How a request is met".
-use Prim.Native.Nat.{ℕ, zero, suc, _+_, _-_, _*_, _/_, _%_}
+use Prim.Native.Nat.{ℕ, suc, _+_, _-_, _/_, _%_}
 use mathlib.Core.Bool.{Bool, true, false, not, _&&_, _||_}
-use mathlib.Core.List.{List, [], _∷_, _++_}
+use mathlib.Core.List.{List}
 use lib.ListN.{length}
 use lib.Dec.{leb, ltb, eqb}
 use Rattle.memory_structs.specs.Choice.{if_then_else_}
 use Rattle.memory_structs.specs.Range.{range, empty, size, meets, top, frameSize, addressLimit, inside}
-use Rattle.model.specs.Lists.{Lists, Slot, unused, used, entries, anyOf, Place, nowhere, at, firstWhere, lastWhere, rangeAt, insert, remove, bound}
+use Rattle.model.specs.Lists.{Lists, Slot, entries, anyOf, Place, nowhere, at, firstWhere, lastWhere, rangeAt, insert, remove, bound}
 use Rattle.memory_structs.specs.declared.range.FrameRange.{FrameRange}
 use Rattle.model.specs.declared.Answer.{Answer}
 

@@ -1,5 +1,5 @@
 -- Document 01's "Proved bench cases" P1 to P14, and the bench program's example, as one table. `table` (proofs/Tabled) proves it.
-use Prim.Native.Nat.{ℕ, _+_, _%_}
+use Prim.Native.Nat.{_+_, _%_}
 use mathlib.Core.Path.{_≡_}
 use mathlib.Core.Bool.{true, false}
 use mathlib.Core.List.{List, [], _∷_}
@@ -7,11 +7,10 @@ use Rattle.memory_structs.specs.Range.{range}
 use Rattle.memory_structs.specs.declared.range.FrameRange.{FrameRange}
 use Rattle.model.specs.Lists.{Lists, entries, rangeAt}
 use Rattle.model.specs.Carving.{pieces}
-use Rattle.model.specs.Boot.{Extent, general, reserved, join, slots, early, bootRefusal, booted}
-use Rattle.model.specs.Requests.{Result, framesOf, granted, byCount, byAddress, byAddressBytes}
+use Rattle.model.specs.Boot.{general, reserved, join, slots, early, bootRefusal, booted}
+use Rattle.model.specs.Requests.{framesOf, granted, byCount, byAddress, byAddressBytes}
 use Rattle.model.specs.Returns.{giveBack, sort}
-use Rattle.model.specs.Calls.{Call, bootCall, sortCall, countCall, addressCall, answer, fresh}
-use Rattle.model.specs.declared.Area.{Area}
+use Rattle.model.specs.Calls.{bootCall, sortCall, countCall, addressCall, answer, fresh}
 use Rattle.model.specs.declared.Kind.the-variants.{General, Reserved}
 
 -- general lists alone, in either form: the free chunks and the regions
