@@ -6,18 +6,18 @@ use mathlib.Core.Bool.{Bool, true, false, _||_, or-false}
 use mathlib.Core.List.{List, [], _∷_}
 use lib.ListN.{length}
 use lib.Dec.{leb, ltb, eqb}
-use borrow.Author.Tests.{eqb-true, eqb-false}
+use borrow.Author.Tests.{eqb-true, eqb-false, ltb-false}
 use Rattle.memory_structs.specs.Choice.{if_then_else_}
 use Rattle.memory_structs.specs.Range.{covers, aboveTop, touched, bytesOutOfBounds, addressLimit}
-use Rattle.memory_structs.proofs.Bools.{neither-first, neither-second}
+use Rattle.memory_structs.proofs.Bools.{if-cases, neither-first, neither-second}
 use Rattle.memory_structs.specs.declared.range.FrameRange.{FrameRange}
 use Rattle.model.specs.Lists.{Lists, entries, anyOf, allOf, disjoint, bound}
 use Rattle.model.specs.Boot.{Extent, marked, inFrames, inBytes, ranges, rangeOf, bootRefusal, anyOutOfBounds, byteRefusal, booted}
-use Rattle.model.specs.Requests.{refused, counted}
+use Rattle.model.specs.Requests.{refused, counted, Result}
 use Rattle.model.specs.Rules.{rules, tidy, slotted}
-use Rattle.model.specs.Store.{recordOf, wordsOf, wordsIn}
-use Rattle.model.specs.Calls.{Call, bootCall, bootBytesCall, Outcome, answer, boot, noEntries, shortBuffer, stored, call, fresh, freshRecord}
-use Rattle.model.specs.History.{held, everGranted, Exclusive, isGeneral, timesFree, in-frames, in-bytes, Kept, Demand3}
+use Rattle.model.specs.Store.{load, recordOf, wordsOf, wordsIn}
+use Rattle.model.specs.Calls.{Call, bootCall, bootBytesCall, Outcome, answer, boot, noEntries, shortBuffer, unchanged, stored, keepsRules, call, fresh, freshRecord}
+use Rattle.model.specs.History.{held, everGranted, Exclusive, isGeneral, timesFree, in-frames, in-bytes, Holds, Demand3, FirstBoot}
 use Rattle.model.specs.declared.ByteArea.{ByteArea}
 use Rattle.model.specs.declared.Kind.{Kind}
 use Rattle.model.specs.declared.Kind.the-variants.{General, Reserved}
@@ -86,7 +86,7 @@ module _ (xs : List Extent) (ok : Accepted xs) (some : 0 < count (booted xs .gen
     exclusive = tt;
   })
 
-  kept-after : (a : FrameAllocator) (ws : List ℕ) → Stands (booted xs) a ws → (cs : List Call) → Kept xs a ws cs
+  kept-after : (a : FrameAllocator) (ws : List ℕ) → Stands (booted xs) a ws → (cs : List Call) → Holds xs a ws cs
   kept-after a ws s cs =
       let r = ran cs (booted xs) a ws [] s some in
       record {
@@ -114,22 +114,43 @@ module _ (xs : List Extent) (ok : Accepted xs) (some : 0 < count (booted xs .gen
 -- the boot's own call, by its number and areas
 module _ (b : Call) (n : ℕ) (xs : List Extent) (long : shortBuffer b ≡ false) (is : answer b fresh ≡ boot n xs fresh) (accept : n ≡ 0 → Accepted xs) where
   from-boot : (ws : List ℕ) → 4096 ≤ length ws → call b freshRecord ws .answer .number ≡ 0 → (f : ℕ) → isGeneral xs f ≡ true →
-      (cs : List Call) → Kept xs (call b freshRecord ws .allocator) (call b freshRecord ws .words) cs
+      (cs : List Call) → Holds xs (call b freshRecord ws .allocator) (call b freshRecord ws .words) cs
   unfolding stored
   from-boot ws h number f general cs =
       let first : call b freshRecord ws ≡ stored (boot n xs fresh) ws = called fresh freshRecord ws (fresh-stands ws h) b ∙ rw (long, is) in
       let d = first-boot n xs (sym (ap (λ (o : Outcome). o .answer .number) first) ∙ number) in
       let ok = accept (d .number) in
       let some = booted-some xs ok f general in
-      subst (λ (o : Outcome). Kept xs (o .allocator) (o .words) cs) (sym first)
-      (subst (λ (m : Lists). Kept xs (recordOf m) (wordsOf m ws) cs) (sym (d .left))
+      subst (λ (o : Outcome). Holds xs (o .allocator) (o .words) cs) (sym first)
+      (subst (λ (m : Lists). Holds xs (recordOf m) (wordsOf m ws) cs) (sym (d .left))
       (kept-after xs ok some _ _ (booted-stands xs ok some ws h) cs))
+
+-- an accepted call had words enough
+long-enough : (b : Call) (ws : List ℕ) → call b freshRecord ws .answer .number ≡ 0 → 4096 ≤ length ws
+unfolding call unchanged
+long-enough b ws = go (ltb (length ws) 4096) refl
+  where
+    go : (t : Bool) → ltb (length ws) 4096 ≡ t → (if t || shortBuffer b then unchanged 3 freshRecord ws else if keepsRules freshRecord ws then stored (answer b (load freshRecord ws)) ws else unchanged 11 freshRecord ws) .answer .number ≡ 0 → 4096 ≤ length ws
+    go true e h = absurd (omega arith)
+    go false e h = ltb-false _ _ e
+
+-- a boot's number on a fresh record
+number-of : (n : ℕ) (xs : List Extent) → boot n xs fresh .answer .number ≡ n
+unfolding boot noEntries fresh entries refused counted
+number-of n xs = if-cases (λ (o : Result). o .answer .number ≡ n) (eqb n 0) (λ e. sym (eqb-true _ _ e)) (λ e. refl)
+
+pub first-boot-number : FirstBoot
+unfolding FirstBoot shortBuffer answer stored
+first-boot-number ws h = (
+  (λ areas. ap (λ (o : Outcome). o .answer .number) (called fresh freshRecord ws (fresh-stands ws h) (bootCall areas)) ∙ number-of (bootRefusal (inFrames areas)) (inFrames areas)),
+  (λ areas. ap (λ (o : Outcome). o .answer .number) (called fresh freshRecord ws (fresh-stands ws h) (bootBytesCall areas)) ∙ number-of (byteRefusal areas) (inBytes areas)),
+)
 
 pub demand-3 : Demand3
 unfolding Demand3 shortBuffer answer bootRefusal byteRefusal
-demand-3 b xs (in-frames areas) ws h number f general cs =
+demand-3 b xs (in-frames areas) ws number f general cs =
     from-boot (bootCall areas) (bootRefusal (inFrames areas)) (inFrames areas) refl refl
-    (λ e. accepted (anyOf aboveTop (ranges (inFrames areas))) (inFrames areas) (λ o. o) e) ws h number f general cs
-demand-3 b xs (in-bytes areas) ws h number f general cs =
+    (λ e. accepted (anyOf aboveTop (ranges (inFrames areas))) (inFrames areas) (λ o. o) e) ws (long-enough (bootCall areas) ws number) number f general cs
+demand-3 b xs (in-bytes areas) ws number f general cs =
     from-boot (bootBytesCall areas) (byteRefusal areas) (inBytes areas) refl refl
-    (λ e. accepted (anyOutOfBounds areas) (inBytes areas) (bytes-below areas) e) ws h number f general cs
+    (λ e. accepted (anyOutOfBounds areas) (inBytes areas) (bytes-below areas) e) ws (long-enough (bootBytesCall areas) ws number) number f general cs

@@ -10,7 +10,7 @@ use borrow.Author.Tests.{leb-true, leb-false, eqb-true, eqb-false, eq-eqb, ne-eq
 use Rattle.memory_structs.specs.Choice.{if_then_else_}
 use Rattle.memory_structs.specs.Range.{range, covers, top}
 use Rattle.model.specs.Lists.{Lists, Slot, unused, used, entries, anyOf, bound, times}
-use Rattle.model.specs.Queries.{isHeld, begins, atRegions, aboveChunks, heldStarts, Run, AllRuns, HeldList, pairs, written}
+use Rattle.model.specs.Queries.{isHeld, begins, atRegions, aboveChunks, heldStarts, Run, AllRuns, HeldList, pairs, written, HeldWritten}
 use Rattle.memory_structs.proofs.Bools.{if-cases, both, both-first, both-second}
 use Rattle.memory_structs.proofs.Bounds.{same-ends}
 use Rattle.memory_structs.proofs.Cover.{cov, cov-in, cov-below, cov-above, cov-cases, covers-low, covers-high, covers-between}
@@ -507,3 +507,9 @@ pub written-length : {l : Lists} {rs : List FrameRange} → Lawful l → HeldLis
 unfolding written
 written-length {l} {rs} a h buffer n =
     simp (length-append, length-drop) (omega (arith, pairs-length rs, held-count a h, few-held a))
+
+-- some list can be written, with the count that the call answers
+pub held-written : {l : Lists} (a : Lawful l) (before : List ℕ) → HeldWritten l (length (heldStarts l)) before (written (held-list a .list) before)
+held-written a before =
+    let s = held-list a in
+    record { list = s .list; number = sym (s .number); held = s .held; words = refl }

@@ -49,7 +49,7 @@ nextTake h r (chunks i k c) =
 unfoldable nextAddress : ℕ → ℕ → Half → Half
 nextAddress f n h =
     if eqb n 0 then h else
-    if ltb top (f + n - 1) || ltb top f then h else
+    if ltb top (f + n - 1) then h else
     nextTake h (range f (f + n - 1)) (find (h .sorted) (range f (f + n - 1)) (h .free))
 
 unfoldable nextGive : FrameRange → Half → Half
@@ -178,14 +178,14 @@ module _ (l : Lists) (a : Lawful l) where
   unfolding byAddress nextAddress refused
   address-half f n =
       if-two after same (eqb n 0) (λ e. refl)
-      (λ e. if-two after same (ltb top (f + n - 1) || ltb top f) (λ g. refl)
+      (λ e. if-two after same (ltb top (f + n - 1)) (λ g. refl)
       (λ g. reserved-half (range f (f + n - 1)) (omega (arith, eqb-false)) _ (find-fit (l .sorted) (range f (f + n - 1)) (l .reservedFree) (a .shape-rf))))
 
 only-address-half : (l : Lists) (f n : ℕ) → half (byAddressGeneral f n l .lists) ≡ nextAddress f n (half l)
 unfolding byAddressGeneral nextAddress refused
 only-address-half l f n =
     if-two after same (eqb n 0) (λ e. refl)
-    (λ e. if-two after same (ltb top (f + n - 1) || ltb top f) (λ g. refl)
+    (λ e. if-two after same (ltb top (f + n - 1)) (λ g. refl)
     (λ g. only-half l (range f (f + n - 1)) (find (l .sorted) (range f (f + n - 1)) (l .generalFree))))
 
 -- returns
@@ -307,7 +307,7 @@ module _ (xs : List Extent) (l : Lists) (a : Lawful l) (ok : (f : ℕ) → 0 < t
   address-struck : (f n : ℕ) → ((x : ℕ) → (leb f x && ltb x (f + n)) ≡ true → isGeneral xs x ≡ false) → nextAddress f n (half l) ≡ half l
   unfolding nextAddress
   address-struck f n h = if-cases (λ x. x ≡ half l) (eqb n 0) (λ e. refl)
-      (λ e. if-cases (λ x. x ≡ half l) (ltb top (f + n - 1) || ltb top f) (λ g. refl)
+      (λ e. if-cases (λ x. x ≡ half l) (ltb top (f + n - 1)) (λ g. refl)
       (λ g. untaken (half l) (range f (f + n - 1)) (omega (arith, eqb-false))
       (omega (arith, a .general f, strange f (h f (and-eq-true-iff _ _ .1 (le-leb f f (omega arith), lt-ltb f (f + n) (omega (arith, eqb-false)))))))
       _ (find-fit (l .sorted) (range f (f + n - 1)) (l .generalFree) (a .shape-gf))))
@@ -332,11 +332,11 @@ module _ (xs : List Extent) (l : Lists) (a : Lawful l) (ok : (f : ℕ) → 0 < t
   struck sortCall h = absurd (false≢true (h .names))
   struck (countCall n) h = absurd (false≢true (h .names))
   struck (countBytesCall b) h = absurd (false≢true (h .names))
-  struck (addressCall f n) h = address-struck f n (h .general-free)
+  struck (addressCall f n) h = address-struck f n (h .none-general)
   struck (addressBytesCall x b) h =
-      if-cases (λ y. y ≡ half l) (leb addressLimit x || ltb addressLimit b) (λ e. refl) (λ e. address-struck (x / frameSize) (framesOf (b + x % frameSize)) (h .general-free))
-  struck (generalCall f n) h = address-struck f n (h .general-free)
-  struck (returnCall r) h = give-struck r (h .general-free)
+      if-cases (λ y. y ≡ half l) (leb addressLimit x || ltb addressLimit b) (λ e. refl) (λ e. address-struck (x / frameSize) (framesOf (b + x % frameSize)) (h .none-general))
+  struck (generalCall f n) h = address-struck f n (h .none-general)
+  struck (returnCall r) h = give-struck r (h .none-general)
   struck (kindCall r) h = refl
   struck (totalCall k) h = refl
   struck (heldCall n) h = refl

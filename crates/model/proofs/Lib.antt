@@ -13,6 +13,7 @@ pub mod Joined
 pub mod Ruled
 pub mod Plainly
 pub mod Held
+pub mod Unchanged
 pub mod Carried
 pub mod Claimed
 pub mod Separated

@@ -262,16 +262,14 @@ in-reserved l r a sound (missing f n) h =
 in-reserved l r a sound tooShort h = refuse 17 l refl a
 in-reserved l r a sound (chunks i k c) h = take-reserved l i k c r a (sound .filled) h
 
-sound-request : (f n : ℕ) → eqb n 0 ≡ false → (ltb top (f + n - 1) || ltb top f) ≡ false → Sound (range f (f + n - 1))
-sound-request f n e h =
-    let both = or-no (ltb top (f + n - 1)) (ltb top f) h in
-    record { filled = omega (arith, eqb-false); low = ltb-false _ _ (both .0) }
+sound-request : (f n : ℕ) → eqb n 0 ≡ false → ltb top (f + n - 1) ≡ false → Sound (range f (f + n - 1))
+sound-request f n e h = record { filled = omega (arith, eqb-false); low = ltb-false _ _ h }
 
 pub by-address : (f n : ℕ) (l : Lists) → Lawful l → Grants l (byAddress f n l)
 unfolding byAddress
 by-address f n l a =
     if-cases (Grants l) (eqb n 0) (λ e. refuse 1 l refl a)
-    (λ e. if-cases (Grants l) (ltb top (f + n - 1) || ltb top f) (λ g. refuse 2 l refl a)
+    (λ e. if-cases (Grants l) (ltb top (f + n - 1)) (λ g. refuse 2 l refl a)
     (λ g. in-reserved l (range f (f + n - 1)) a (sound-request f n e g) _ (find-fit (l .sorted) (range f (f + n - 1)) (l .reservedFree) (a .shape-rf))))
 
 pub by-address-bytes : (x b : ℕ) (l : Lists) → Lawful l → Grants l (byAddressBytes x b l)
@@ -291,5 +289,5 @@ pub by-address-general : (f n : ℕ) (l : Lists) → Lawful l → Grants l (byAd
 unfolding byAddressGeneral
 by-address-general f n l a =
     if-cases (Grants l) (eqb n 0) (λ e. refuse 1 l refl a)
-    (λ e. if-cases (Grants l) (ltb top (f + n - 1) || ltb top f) (λ g. refuse 2 l refl a)
+    (λ e. if-cases (Grants l) (ltb top (f + n - 1)) (λ g. refuse 2 l refl a)
     (λ g. only-general l (range f (f + n - 1)) a (sound-request f n e g) _ (find-fit (l .sorted) (range f (f + n - 1)) (l .generalFree) (a .shape-gf))))

@@ -11,7 +11,7 @@ use borrow.Author.Tests.{leb-true, eqb-true, le-leb, eq-eqb}
 use Rattle.memory_structs.specs.declared.range.FrameRange.{FrameRange}
 use Rattle.memory_structs.proofs.Bools.{both, both-first, both-second}
 use Rattle.model.specs.Lists.{Slot, unused, used}
-use Rattle.model.specs.Store.{zipped, slotsOf, rangeIn, isUsed, earlyOf, tableSlots, slotWords, tableWords, slotsIn, earlyIn, lengthIn, wordsIn, plain, noneUsed, allZero, storedIn}
+use Rattle.model.specs.Store.{zipped, slotsOf, rangeIn, isUsed, earlyOf, tableSlots, slotWords, tableWords, slotsIn, earlyIn, lengthIn, wordsIn, emptied, noneUsed, allZero, storedIn}
 use Rattle.model.specs.declared.EarlyList.{EarlyList}
 
 -- ---- early slots
@@ -26,8 +26,8 @@ pub early-again : (s : List Slot) → slotsOf (earlyOf s) ≡ s
 unfolding slotsOf earlyOf
 early-again s = zip-map s
 
-map-plain : (s : List Slot) → plain (map (λ x. rangeIn x .start) s) (map (λ x. rangeIn x .end) s) (map isUsed s) ≡ true
-unfolding plain
+map-plain : (s : List Slot) → emptied (map (λ x. rangeIn x .start) s) (map (λ x. rangeIn x .end) s) (map isUsed s) ≡ true
+unfolding emptied
 map-plain [] = refl
 map-plain (unused ∷ s) = map-plain s
 map-plain (used r ∷ s) = map-plain s
@@ -39,8 +39,8 @@ record Rebuilt (ss es : List ℕ) (us : List Bool) (s : List Slot) : Type 0 wher
   flags : map isUsed s ≡ us
   size : length s ≡ length ss
 
-rebuilt : (ss es : List ℕ) (us : List Bool) → plain ss es us ≡ true → Rebuilt ss es us (zipped ss es us)
-unfolding plain zipped
+rebuilt : (ss es : List ℕ) (us : List Bool) → emptied ss es us ≡ true → Rebuilt ss es us (zipped ss es us)
+unfolding emptied zipped
 rebuilt [] [] [] p = record { starts = refl; ends = refl; flags = refl; size = refl }
 rebuilt [] [] (u ∷ us) p = absurd (false≢true p)
 rebuilt [] (e ∷ es) us p = absurd (false≢true p)
@@ -55,8 +55,8 @@ rebuilt (s ∷ ss) (e ∷ es) (true ∷ us) p =
       size = ap suc (r .size);
     }
 rebuilt (s ∷ ss) (e ∷ es) (false ∷ us) p =
-    let here = both-first (eqb s 1 && eqb e 0) (plain ss es us) p in
-    let r = rebuilt ss es us (both-second (eqb s 1 && eqb e 0) (plain ss es us) p) in
+    let here = both-first (eqb s 1 && eqb e 0) (emptied ss es us) p in
+    let r = rebuilt ss es us (both-second (eqb s 1 && eqb e 0) (emptied ss es us) p) in
     let one : 1 ≡ s = sym (eqb-true _ _ (both-first (eqb s 1) (eqb e 0) here)) in
     let none : 0 ≡ e = sym (eqb-true _ _ (both-second (eqb s 1) (eqb e 0) here)) in
     record {
@@ -66,13 +66,13 @@ rebuilt (s ∷ ss) (e ∷ es) (false ∷ us) p =
       size = ap suc (r .size);
     }
 
-plain-again : (e : EarlyList) → plain (e .starts) (e .ends) (e .used) ≡ true → earlyOf (slotsOf e) ≡ e
+plain-again : (e : EarlyList) → emptied (e .starts) (e .ends) (e .used) ≡ true → earlyOf (slotsOf e) ≡ e
 unfolding earlyOf slotsOf
 plain-again e p =
     let r = rebuilt (e .starts) (e .ends) (e .used) p in
     λ i. record { starts = r .starts i; ends = r .ends i; used = r .flags i }
 
-pub slots-length : (e : EarlyList) → plain (e .starts) (e .ends) (e .used) ≡ true → length (slotsOf e) ≡ length (e .starts)
+pub slots-length : (e : EarlyList) → emptied (e .starts) (e .ends) (e .used) ≡ true → length (slotsOf e) ≡ length (e .starts)
 unfolding slotsOf
 slots-length e p = rebuilt (e .starts) (e .ends) (e .used) p .size
 
@@ -174,7 +174,7 @@ pub record Kept (b : Bool) (e : EarlyList) (n : ℕ) (w : List ℕ) : Type 0 whe
   pub len : lengthIn b (slotsIn b e n w) ≡ n
   pub words : wordsIn b (slotsIn b e n w) w ≡ w
 
-idle-again : (e : EarlyList) → plain (e .starts) (e .ends) (e .used) ≡ true → length (e .starts) ≡ 32 → noneUsed (e .used) ≡ true → earlyOf (replicate 32 unused) ≡ e
+idle-again : (e : EarlyList) → emptied (e .starts) (e .ends) (e .used) ≡ true → length (e .starts) ≡ 32 → noneUsed (e .used) ≡ true → earlyOf (replicate 32 unused) ≡ e
 unfolding slotsOf
 idle-again e p full idle =
     let r = rebuilt (e .starts) (e .ends) (e .used) p in
@@ -189,7 +189,7 @@ table-kept n w h few zeros =
     let tail : replicate (1024 - 2 * length (tableSlots n w)) 0 ≡ drop (2 * n) w = (let k : 1024 - 2 * length (tableSlots n w) ≡ length (drop (2 * n) w) = omega (arith, table-length n w, length-drop (2 * n) w) in ap (λ (m : ℕ). replicate m 0) k) ∙ sym (all-zero (drop (2 * n) w) zeros) in
     (λ i. words-short n w (omega arith) i ++ tail i) ∙ take-append-drop (2 * n) w
 
-table-used : (n : ℕ) (ws : List ℕ) → AllUsed (tableSlots n ws)
+pub table-used : (n : ℕ) (ws : List ℕ) → AllUsed (tableSlots n ws)
 unfolding tableSlots
 table-used zero ws = none
 table-used (suc n) ws = one (table-used n (drop 2 ws))
@@ -197,8 +197,8 @@ table-used (suc n) ws = one (table-used n (drop 2 ws))
 pub test-kept : (b : Bool) (e : EarlyList) (n : ℕ) (w : List ℕ) → length w ≡ 1024 → storedIn b e n w ≡ true → Kept b e n w
 unfolding storedIn slotsIn earlyIn lengthIn wordsIn
 test-kept false e n w h p =
-    let plains = both-first (plain (e .starts) (e .ends) (e .used)) _ p in
-    let rest = both-second (plain (e .starts) (e .ends) (e .used)) _ p in
+    let plains = both-first (emptied (e .starts) (e .ends) (e .used)) _ p in
+    let rest = both-second (emptied (e .starts) (e .ends) (e .used)) _ p in
     let full : length (e .starts) ≡ 32 = eqb-true _ _ (both-first (eqb (length (e .starts)) 32) (eqb n 0) rest) in
     record {
       storable = early (slots-length e plains ∙ full);
@@ -207,8 +207,8 @@ test-kept false e n w h p =
       words = refl;
     }
 test-kept true e n w h p =
-    let plains = both-first (plain (e .starts) (e .ends) (e .used)) _ p in
-    let p₁ = both-second (plain (e .starts) (e .ends) (e .used)) _ p in
+    let plains = both-first (emptied (e .starts) (e .ends) (e .used)) _ p in
+    let p₁ = both-second (emptied (e .starts) (e .ends) (e .used)) _ p in
     let full : length (e .starts) ≡ 32 = eqb-true _ _ (both-first (eqb (length (e .starts)) 32) _ p₁) in
     let p₂ = both-second (eqb (length (e .starts)) 32) _ p₁ in
     let idle = both-first (noneUsed (e .used)) _ p₂ in

@@ -1,4 +1,5 @@
 -- The record and the workspace whole: lists stored are read back, and what passes the test of storing is what its lists store.
+use Rattle.model.specs.declared.EarlyList.{EarlyList}
 use Prim.Native.Nat.{ℕ, suc, _+_, _-_, _≤_}
 use native.Mathlib.Omega.{arith}
 use mathlib.Core.Path.{_≡_, refl, sym, ap, _∙_}
@@ -8,11 +9,11 @@ use lib.ListN.{length, take, drop, length-append, length-drop, take-append-drop}
 use lib.Seq.{drop-drop, take-at, drop-at, length-take-le}
 use Rattle.memory_structs.proofs.Bools.{both, both-first, both-second}
 use Rattle.model.specs.Lists.{Lists, Slot, unused, used, entries, bound}
-use Rattle.model.specs.Store.{part, slotsIn, load, earlyIn, lengthIn, wordsIn, recordOf, wordsOf, storedIn, storeRules}
+use Rattle.model.specs.Store.{part, slotsIn, load, earlyIn, lengthIn, wordsIn, recordOf, wordsOf, storedIn, storeRules, FitsIn, Stores}
 use Rattle.model.specs.declared.FrameAllocator.{FrameAllocator}
 use Rattle.model.proofs.Cover.{count}
 use Rattle.model.proofs.Lawful.{Rising, Slots, Lawful}
-use Rattle.model.proofs.Stored.{AllUsed, none, one, Storable, early, sorted, part-length, slots-again, stored-test, Kept, test-kept}
+use Rattle.model.proofs.Stored.{AllUsed, none, one, Storable, early, sorted, part-length, slots-again, stored-test, table-used, Kept, test-kept}
 
 -- ---- lawful lists can be stored
 
@@ -187,3 +188,39 @@ unfolding wordsOf load
 words-kept a ws t =
     rw (t .general-free .words, t .reserved-free .words, t .general-regions .words, t .reserved-regions .words)
     (rw (part-then 3072 ws, part-then 2048 ws, part-then 1024 ws) (part-then 0 ws))
+
+-- the test of storing, and what it says plainly
+
+fits-in : {b : Bool} {s : List Slot} → Storable b s → FitsIn b s
+unfolding FitsIn
+fits-in (early h) = h
+fits-in (sorted u h) = h
+
+in-fits : (b : Bool) (e : EarlyList) (n : ℕ) (w : List ℕ) → FitsIn b (slotsIn b e n w) → Storable b (slotsIn b e n w)
+unfolding FitsIn slotsIn
+in-fits false e n w h = early h
+in-fits true e n w h = sorted (table-used n w) h
+
+pub test-stores : (a : FrameAllocator) (ws : List ℕ) → 4096 ≤ length ws → storeRules a ws ≡ true → Stores a ws
+unfolding load
+test-stores a ws h e =
+    let t = tested a ws h e in
+    record {
+      record-is = record-kept a ws t;
+      words-are = words-kept a ws t;
+      general-free = fits-in (t .general-free .storable);
+      reserved-free = fits-in (t .reserved-free .storable);
+      general-regions = fits-in (t .general-regions .storable);
+      reserved-regions = fits-in (t .reserved-regions .storable);
+    }
+
+pub stores-test : (a : FrameAllocator) (ws : List ℕ) → 4096 ≤ length ws → Stores a ws → storeRules a ws ≡ true
+unfolding load
+stores-test a ws h s =
+    (λ i. storeRules (sym (s .record-is) i) (sym (s .words-are) i))
+    ∙ test-store (load a ws) ws h (record {
+      general-free = in-fits _ _ _ (part 0 ws) (s .general-free);
+      reserved-free = in-fits _ _ _ (part 1024 ws) (s .reserved-free);
+      general-regions = in-fits _ _ _ (part 2048 ws) (s .general-regions);
+      reserved-regions = in-fits _ _ _ (part 3072 ws) (s .reserved-regions);
+    })

@@ -37,7 +37,7 @@ pub data Call : Type 0 where
   totalCall : Kind → Call
   heldCall : ℕ → Call
 
--- "10: boot, and any list is not empty"
+-- 10: "boot, and any list is not empty"
 unfoldable pub noEntries : Lists → Bool
 noEntries l = eqb 0 (length (entries (l .generalFree)) + length (entries (l .reservedFree))
     + length (entries (l .generalRegions)) + length (entries (l .reservedRegions)))
@@ -63,7 +63,7 @@ answer (kindCall r) l = kindOf r l
 answer (totalCall k) l = total k l
 answer (heldCall n) l = heldRuns l
 
--- "3: workspace below 4096 words, or held-list buffer below 2048"
+-- the second half of 3: "workspace below 4096 words, or held-list buffer below 2048"
 unfoldable pub shortBuffer : Call → Bool
 shortBuffer (bootCall areas) = false
 shortBuffer (bootBytesCall areas) = false
@@ -84,27 +84,29 @@ pub record Outcome : Type 0 where
   pub allocator : FrameAllocator
   pub words : List ℕ
 
--- "A refusal returns its number .. record, workspace and buffers keep every value."
-unfoldable pub kept : ℕ → FrameAllocator → List ℕ → Outcome
-kept n a ws = record { answer = record { number = n; range = empty; frame = 0; count = 0 }; allocator = a; words = ws }
+-- 3 and 11: "A refusal returns its number, the range [1,0], and 0 and 0 for frame and count"
+unfoldable pub unchanged : ℕ → FrameAllocator → List ℕ → Outcome
+unchanged n a ws = record { answer = record { number = n; range = empty; frame = 0; count = 0 }; allocator = a; words = ws }
 
+-- what the lists have it, stored. A refusal and a question leave the lists, and so the record and every word, as they were:
+-- `refused-unchanged` and `question-unchanged` (proofs/Unchanged).
 unfoldable pub stored : Result → List ℕ → Outcome
 stored r ws = record { answer = r .answer; allocator = recordOf (r .lists); words = wordsOf (r .lists) ws }
 
--- "11: the list rules below are broken"
+-- 11: "the list rules below are broken"
 unfoldable pub keepsRules : FrameAllocator → List ℕ → Bool
 keepsRules a ws = storeRules a ws && rules (load a ws)
 
 -- the one definition of every call: "Order: 3, 11", then as the lists have it
 unfoldable pub call : Call → FrameAllocator → List ℕ → Outcome
 call c a ws =
-    if ltb (length ws) 4096 || shortBuffer c then kept 3 a ws else
-    if keepsRules a ws then stored (answer c (load a ws)) ws else kept 11 a ws
+    if ltb (length ws) 4096 || shortBuffer c then unchanged 3 a ws else
+    if keepsRules a ws then stored (answer c (load a ws)) ws else unchanged 11 a ws
 
 -- and what it leaves of the held list's buffer, the one other thing that is lent: "record, workspace and buffers keep every value"
 pub record BufferAfter (a : FrameAllocator) (ws before after : List ℕ) : Type 0 where
-  pub accepted : call (heldCall (length before)) a ws .answer .number ≡ 0 → HeldWritten (load a ws) before after
-  pub refused : (call (heldCall (length before)) a ws .answer .number ≡ 0 → ⊥) → after ≡ before
+  pub accepted : call (heldCall (length before)) a ws .answer .number ≡ 0 → HeldWritten (load a ws) (call (heldCall (length before)) a ws .answer .count) before after
+  pub otherwise : (call (heldCall (length before)) a ws .answer .number ≡ 0 → ⊥) → after ≡ before
 
 -- "A fresh record is in early form with every slot unused."
 unfoldable pub fresh : Lists

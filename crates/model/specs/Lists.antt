@@ -33,7 +33,11 @@ unfoldable pub anyOf : (FrameRange → Bool) → List FrameRange → Bool
 anyOf p [] = false
 anyOf p (r ∷ s) = p r || anyOf p s
 
--- all of them do
+-- the frame is in one of them
+abbrev pub coveredBy : ℕ → List FrameRange → Bool
+coveredBy f rs = anyOf (λ r. covers r f) rs
+
+-- all of the ranges pass the test
 unfoldable pub allOf : (FrameRange → Bool) → List FrameRange → Bool
 allOf p [] = true
 allOf p (r ∷ s) = p r && allOf p s

@@ -8,7 +8,7 @@ use lib.Dec.{eqb}
 use Rattle.memory_structs.specs.Choice.{if_then_else_}
 use Rattle.memory_structs.specs.Range.{covers, meets, aboveTop}
 use Rattle.memory_structs.specs.declared.range.FrameRange.{FrameRange}
-use Rattle.model.specs.Lists.{Lists, entries, anyOf, sum, times}
+use Rattle.model.specs.Lists.{Lists, entries, anyOf, sum, times, coveredBy}
 use Rattle.model.specs.Requests.{Result, refused, counted}
 use Rattle.model.specs.declared.Kind.{Kind}
 use Rattle.model.specs.declared.Kind.the-variants.{General, Reserved}
@@ -27,13 +27,14 @@ total Reserved l = counted (sum (entries (l .reservedFree))) l
 -- "general frames not free"
 unfoldable pub isHeld : Lists → ℕ → Bool
 isHeld l f =
-    anyOf (λ r. covers r f) (entries (l .generalRegions)) && not (anyOf (λ r. covers r f) (entries (l .generalFree)))
+    coveredBy f (entries (l .generalRegions)) && not (coveredBy f (entries (l .generalFree)))
 
 -- a maximal run begins at the frame
 unfoldable pub begins : Lists → ℕ → Bool
 begins l f = isHeld l f && (eqb f 0 || not (isHeld l (f - 1)))
 
--- a run can begin at the start of a region, or just above a free chunk where no region starts
+-- a run can begin at the start of a region, or just above a free chunk where no region starts, and nowhere else (`begins-once`,
+-- proofs/Held)
 unfoldable pub atRegions : Lists → List FrameRange → List ℕ
 atRegions l [] = []
 atRegions l (r ∷ rs) = if begins l (r .start) then r .start ∷ atRegions l rs else atRegions l rs
@@ -79,7 +80,9 @@ unfoldable pub written : List FrameRange → List ℕ → List ℕ
 written rs buffer = pairs rs ++ drop (length (pairs rs)) buffer
 
 -- what an accepted held list leaves of its buffer: the runs in an order of the program's own choice
-pub record HeldWritten (l : Lists) (before after : List ℕ) : Type 0 where
+pub record HeldWritten (l : Lists) (count : ℕ) (before after : List ℕ) : Type 0 where
   pub list : List FrameRange
+  -- "the number of held runs"; the same for every list of them (`held-count`, proofs/Held)
+  pub number : count ≡ length list
   pub held : HeldList l list
   pub words : after ≡ written list before

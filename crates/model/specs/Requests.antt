@@ -75,7 +75,7 @@ putAfter sorted c r s = if ltb (r .end) (c .end) then insert sorted (range (r .e
 unfoldable pub grantFrom : Bool → ℕ → ℕ → FrameRange → FrameRange → List Slot → List Slot
 grantFrom sorted i k c r s = putAfter sorted c r (putBefore sorted c r (remove sorted i k s))
 
--- how many entries that leaves: "18: after the call a list would hold more than 32 (early) or 512 (sorted) entries"
+-- how many entries that leaves; 18: "after the call a list would hold more than 32 (early) or 512 (sorted) entries"
 unfoldable pub entriesAfter : Bool → ℕ → ℕ → FrameRange → FrameRange → List Slot → ℕ
 entriesAfter sorted i k c r s =
     length (entries (remove sorted i k s))
@@ -112,7 +112,7 @@ largeEnough true n s = lastWhere (λ c. leb n (size c)) s
 unfoldable pub byCount : ℕ → Lists → Result
 byCount n l = if eqb n 0 then refused 1 l else fromPlace l n (largeEnough (l .sorted) n (l .generalFree))
 
--- "Else it becomes a reserved region and a reserved chunk, and the request is met." The first three cases never come (`Growth`).
+-- "Else it becomes a reserved region and a reserved chunk, and the request is met." Only the last case comes (proofs/Growth).
 unfoldable pub fromGrown : Lists → Lists → FrameRange → Found → Result
 fromGrown l l' r notFound = refused 12 l
 fromGrown l l' r (missing f n) = refused 12 l
@@ -121,7 +121,7 @@ fromGrown l l' r (chunks i k c) =
     if ltb (bound (l .sorted)) (entriesAfter (l .sorted) i k c r (l' .reservedFree)) then refused 18 l else
     granted r (withReserved l' (grantFrom (l .sorted) i k c r (l' .reservedFree)) (l' .reservedRegions))
 
--- "early growth also when either reserved list has 32 already"
+-- 18: a list of regions that is full, and "early growth also when either reserved list has 32 already"
 unfoldable pub noRoomToGrow : Lists → Bool
 noRoomToGrow l =
     leb (bound (l .sorted)) (length (entries (l .reservedRegions)))
@@ -154,10 +154,10 @@ inReserved l r (chunks i k c) = takeReserved l i k c r
 unfoldable pub byAddress : ℕ → ℕ → Lists → Result
 byAddress f n l =
     if eqb n 0 then refused 1 l else
-    if ltb top (f + n - 1) || ltb top f then refused 2 l else
+    if ltb top (f + n - 1) then refused 2 l else
     inReserved l (range f (f + n - 1)) (find (l .sorted) (range f (f + n - 1)) (l .reservedFree))
 
--- a general-only request looks at the general list alone; "15: *missing*, general-only request"
+-- a general-only request looks at the general list alone; 15: "*missing*, general-only request"
 unfoldable pub onlyGeneral : Lists → FrameRange → Found → Result
 onlyGeneral l r notFound = refused 12 l
 onlyGeneral l r (missing f n) = refusedMissing f n l
@@ -167,7 +167,7 @@ onlyGeneral l r (chunks i k c) = takeGeneral l i k c r
 unfoldable pub byAddressGeneral : ℕ → ℕ → Lists → Result
 byAddressGeneral f n l =
     if eqb n 0 then refused 1 l else
-    if ltb top (f + n - 1) || ltb top f then refused 2 l else
+    if ltb top (f + n - 1) then refused 2 l else
     onlyGeneral l (range f (f + n - 1)) (find (l .sorted) (range f (f + n - 1)) (l .generalFree))
 
 -- "divide by 4096, round up"
@@ -181,5 +181,5 @@ byBytes b l = if ltb addressLimit b then refused 2 l else byCount (framesOf b) l
 
 unfoldable pub byAddressBytes : ℕ → ℕ → Lists → Result
 byAddressBytes a b l =
-    if leb 1099511627776 a || ltb addressLimit b then refused 2 l else
+    if leb addressLimit a || ltb addressLimit b then refused 2 l else
     byAddress (a / frameSize) (framesOf (b + a % frameSize)) l

@@ -1,5 +1,5 @@
--- The list rules, as a test that runs (refusal 11). The words in quotes are document 01's. What the test means frame by frame is proved
--- in proofs/Ruled: `rules-lawful` and `lawful-rules`.
+-- The list rules, as a test that runs (refusal 11). The words in quotes are document 01's. What the test means frame by frame is said
+-- below.
 use Prim.Native.Nat.{ℕ, _≤_}
 use mathlib.Core.Path.{_≡_}
 use mathlib.Core.Bool.{Bool, true, false, not, _&&_}
@@ -8,7 +8,7 @@ use lib.ListN.{length}
 use lib.Dec.{leb, eqb}
 use Rattle.memory_structs.specs.Range.{covers, meets, top}
 use Rattle.memory_structs.specs.declared.range.FrameRange.{FrameRange}
-use Rattle.model.specs.Lists.{Lists, Slot, unused, used, entries, anyOf, allOf, disjoint, times, bound, inUnion}
+use Rattle.model.specs.Lists.{Lists, Slot, unused, used, entries, anyOf, allOf, disjoint, times, bound, inUnion, coveredBy}
 
 -- "sorted tables ascending": no unused slot, and the starts ascend from n on
 unfoldable pub rising : ℕ → List Slot → Bool
@@ -35,7 +35,7 @@ rules l =
     ((allOf (inUnion (entries (l .generalRegions))) (entries (l .generalFree)) && allOf (inUnion (entries (l .reservedRegions))) (entries (l .reservedFree))) &&
     not (anyOf (λ r. anyOf (meets r) (entries (l .reservedRegions))) (entries (l .generalRegions)))))
 
--- The same rules said of frames. `rules-plain` and `plain-rules` (proofs/Plainly) prove that the test above says this and no less.
+-- The same rules said of frames. `rules-plain` and `plain-rules` (proofs/Plainly) prove that the test above says this, no more and no less.
 
 unfoldable pub Each : (FrameRange → Type 0) → List FrameRange → Type 0
 Each P [] = Unit {0}
@@ -51,15 +51,16 @@ unfoldable pub InForm : Bool → List Slot → Type 0
 InForm false s = length s ≡ 32
 InForm true s = (length s ≡ length (entries s)) × Ascending 0 (entries s)
 
--- a frame of the range is in one of the others
+-- the frame is in one of the ranges
 abbrev pub In : ℕ → List FrameRange → Type 0
-In f rs = anyOf (λ r. covers r f) rs ≡ true
+In f rs = coveredBy f rs ≡ true
 
 pub record PlainList (sorted : Bool) (s : List Slot) : Type 0 where
   -- "entries non-empty, at or below the top"
   pub sound : Each (λ r. (r .start ≤ r .end) × (r .end ≤ top)) (entries s)
   -- "disjoint within a list": no frame is in two entries
   pub once : (f : ℕ) → times f (entries s) ≤ 1
+  -- "at most 512 entries", and in early form no more than there are slots
   pub few : length (entries s) ≤ bound sorted
   pub form : InForm sorted s
 

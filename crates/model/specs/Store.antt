@@ -1,5 +1,6 @@
 -- The record and the lent workspace, as lists and back. The words in quotes are document 01's.
-use Prim.Native.Nat.{ℕ, zero, suc, _-_, _*_}
+use Prim.Native.Nat.{ℕ, zero, suc, _-_, _*_, _≤_}
+use mathlib.Core.Path.{_≡_}
 use mathlib.Core.Bool.{Bool, true, false, not, _&&_, _||_}
 use mathlib.Core.List.{List, [], _∷_, _++_, map}
 use lib.ListN.{length, take, drop, getD, replicate}
@@ -105,14 +106,14 @@ wordsOf l ws =
 
 -- the rules of storing, as a test that runs (refusal 11)
 
--- "an unused early slot holds [1,0]"; an array has 32 elements
-unfoldable pub plain : List ℕ → List ℕ → List Bool → Bool
-plain (s ∷ ss) (e ∷ es) (u ∷ us) = (u || (eqb s 1 && eqb e 0)) && plain ss es us
-plain [] [] [] = true
-plain (s ∷ ss) [] us = false
-plain (s ∷ ss) (e ∷ es) [] = false
-plain [] (e ∷ es) us = false
-plain [] [] (u ∷ us) = false
+-- "an unused early slot holds [1,0]"
+unfoldable pub emptied : List ℕ → List ℕ → List Bool → Bool
+emptied (s ∷ ss) (e ∷ es) (u ∷ us) = (u || (eqb s 1 && eqb e 0)) && emptied ss es us
+emptied [] [] [] = true
+emptied (s ∷ ss) [] us = false
+emptied (s ∷ ss) (e ∷ es) [] = false
+emptied [] (e ∷ es) us = false
+emptied [] [] (u ∷ us) = false
 
 unfoldable pub noneUsed : List Bool → Bool
 noneUsed [] = true
@@ -125,9 +126,9 @@ allZero (w ∷ ws) = eqb w 0 && allZero ws
 -- one list
 unfoldable pub storedIn : Bool → EarlyList → ℕ → List ℕ → Bool
 storedIn false early n ws =
-    plain (early .starts) (early .ends) (early .used) && (eqb (length (early .starts)) 32 && eqb n 0)
+    emptied (early .starts) (early .ends) (early .used) && (eqb (length (early .starts)) 32 && eqb n 0)
 storedIn true early n ws =
-    plain (early .starts) (early .ends) (early .used) && (eqb (length (early .starts)) 32 &&
+    emptied (early .starts) (early .ends) (early .used) && (eqb (length (early .starts)) 32 &&
     (noneUsed (early .used) && (leb n 512 && allZero (drop (2 * n) ws))))
 
 -- all four
@@ -137,3 +138,17 @@ storeRules a ws =
     && storedIn (a .sorted) (a .«reserved_free») (a .«reserved_free_len») (part 1024 ws))
     && (storedIn (a .sorted) (a .«general_regions») (a .«general_regions_len») (part 2048 ws)
     && storedIn (a .sorted) (a .«reserved_regions») (a .«reserved_regions_len») (part 3072 ws))
+
+-- The same said plainly: record and words are those that store their lists, 32 slots each in early form and at most 512 entries each
+-- in sorted form. `test-stores` and `stores-test` (proofs/Whole) prove that the test says this, no more and no less.
+unfoldable pub FitsIn : Bool → List Slot → Type 0
+FitsIn false s = length s ≡ 32
+FitsIn true s = length s ≤ 512
+
+pub record Stores (a : FrameAllocator) (ws : List ℕ) : Type 0 where
+  pub record-is : recordOf (load a ws) ≡ a
+  pub words-are : wordsOf (load a ws) ws ≡ ws
+  pub general-free : FitsIn (a .sorted) (load a ws .generalFree)
+  pub reserved-free : FitsIn (a .sorted) (load a ws .reservedFree)
+  pub general-regions : FitsIn (a .sorted) (load a ws .generalRegions)
+  pub reserved-regions : FitsIn (a .sorted) (load a ws .reservedRegions)
