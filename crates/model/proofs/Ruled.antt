@@ -25,14 +25,14 @@ both a b e = and-eq-true-iff a b .0 e
 pair : {a b : Bool} → a ≡ true → b ≡ true → (a && b) ≡ true
 pair {a} {b} p q = and-eq-true-iff a b .1 (p, q)
 
-rising-is : (n : ℕ) (s : List Slot) → rising n s ≡ true → Rising n s
+pub rising-is : (n : ℕ) (s : List Slot) → rising n s ≡ true → Rising n s
 unfolding rising Rising
 rising-is n [] e = tt
 rising-is n (unused ∷ s) e = absurd (false≢true e)
 rising-is n (used r ∷ s) e =
     let x = both (leb n (r .start)) (rising (r .start) s) e in (leb-true _ _ (x .0), rising-is (r .start) s (x .1))
 
-is-rising : (n : ℕ) (s : List Slot) → Rising n s → rising n s ≡ true
+pub is-rising : (n : ℕ) (s : List Slot) → Rising n s → rising n s ≡ true
 unfolding rising Rising
 is-rising n [] a = refl
 is-rising n (unused ∷ s) a = absurd a

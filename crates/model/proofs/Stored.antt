@@ -120,7 +120,7 @@ table-again {s} u = slots-of (replicate (1024 - 2 * length s) 0) u
 double : (n : ℕ) → 2 * suc n ≡ suc (suc (2 * n))
 double n = omega arith
 
-words-short : (n : ℕ) (ws : List ℕ) → 2 * n ≤ length ws → slotWords (tableSlots n ws) ≡ take (2 * n) ws
+pub words-short : (n : ℕ) (ws : List ℕ) → 2 * n ≤ length ws → slotWords (tableSlots n ws) ≡ take (2 * n) ws
 unfolding tableSlots slotWords
 words-short zero ws h = refl
 words-short (suc n) [] h = absurd (omega arith)
