@@ -1,0 +1,5 @@
+pub mod Table
+pub mod Shift
+pub mod Search
+pub mod Halving
+pub mod Zeros
