@@ -11,6 +11,7 @@ use Rattle.memory_structs.specs.declared.range.FrameRange.{FrameRange}
 use Rattle.model.specs.declared.EarlyList.{EarlyList}
 use Rattle.early.proofs.First.{passes, isUnused}
 use Rattle.model.specs.Store.{slotOf, rangeIn, isUsed, zipped, slotsOf, earlyOf}
+use Rattle.model.proofs.Stored.{early-again}
 use Rattle.early.specs.Slots.{IsEarly}
 
 zip-at : (i : ℕ) (ss es : List ℕ) (us : List Bool) → i < length (zipped ss es us) → getD (zipped ss es us) i unused ≡ slotOf (getD us i false) (range (getD ss i 0) (getD es i 0))
@@ -26,19 +27,8 @@ pub slot-at : (l : EarlyList) (i : ℕ) → IsEarly l → i < 32 → getD (slots
 unfolding slotsOf
 slot-at l i t h = zip-at i (l .starts) (l .ends) (l .used) (omega arith)
 
--- the slots of the early list of slots are those slots
-zip-map : (s : List Slot) → zipped (map (λ x. rangeIn x .start) s) (map (λ x. rangeIn x .end) s) (map isUsed s) ≡ s
-unfolding zipped
-zip-map [] = refl
-zip-map (unused ∷ s) = ap (λ (l : List Slot). unused ∷ l) (zip-map s)
-zip-map (used r ∷ s) = ap (λ (l : List Slot). used r ∷ l) (zip-map s)
-
-pub loaded : (s : List Slot) → slotsOf (earlyOf s) ≡ s
-unfolding slotsOf earlyOf
-loaded s = zip-map s
-
 pub is-early : (s : List Slot) → length s ≡ 32 → IsEarly (earlyOf s)
-is-early s h = record { size = ap length (loaded s) ∙ h; plain = ap earlyOf (loaded s) }
+is-early s h = record { size = ap length (early-again s) ∙ h; plain = ap earlyOf (early-again s) }
 
 map-set : {B : Type 0} (f : Slot → B) (s : List Slot) (i : ℕ) (x : Slot) → set (map f s) i (f x) ≡ map f (set s i x)
 map-set f [] i x = refl

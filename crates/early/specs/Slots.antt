@@ -1,10 +1,16 @@
 -- One early list, as its functions need it.
 use mathlib.Core.Path.{_≡_}
+use mathlib.Core.Bool.{Bool}
 use mathlib.Core.List.{List, [], _∷_}
+use lib.Dec.{leb}
 use lib.ListN.{length}
 use Rattle.model.specs.Lists.{Slot, unused, used, Place, nowhere, at, later}
 use Rattle.model.specs.Store.{slotsOf, earlyOf}
 use Rattle.model.specs.declared.EarlyList.{EarlyList}
+use Rattle.memory_structs.specs.Range.{size, inside, meets}
+use Rattle.memory_structs.specs.declared.range.FrameRange.{FrameRange}
+use Rattle.early.specs.declared.Wanted.{Wanted}
+use Rattle.early.specs.declared.Wanted.the-variants.{Large, Holding, Meeting}
 
 -- 32 slots, and nothing that the slots do not show
 pub record IsEarly (l : EarlyList) : Type 0 where
@@ -16,3 +22,9 @@ unfoldable pub firstUnused : List Slot → Place
 firstUnused [] = nowhere
 firstUnused (unused ∷ s) = at 0
 firstUnused (used r ∷ s) = later (firstUnused s)
+
+-- what a search looks for, as a test of a range
+unfoldable pub wants : Wanted → FrameRange → Bool
+wants (Large n) c = leb n (size c)
+wants (Holding r) c = inside c r
+wants (Meeting r) c = meets r c

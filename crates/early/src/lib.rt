@@ -3,12 +3,12 @@ ghost use mathlib.Core.Path.{_≡_};
 ghost use mathlib.Core.Bool.{true, false};
 ghost use Prim.Native.Nat.{_+_, _-_, _<_};
 ghost use lib.ListN.{set};
-ghost use Rattle.memory_structs.specs.Range.{range};
-ghost use Rattle.model.specs.Lists.{used, insertEarly, remove};
-ghost use Rattle.model.specs.Requests.{largeEnough};
+ghost use Rattle.memory_structs.specs.Range.{range, inside, meets};
+ghost use Rattle.model.specs.Lists.{used, firstWhere, insertEarly, remove};
 ghost use Rattle.tables.specs.Words.{placeOf};
 ghost use Rattle.model.specs.Store.{slotsOf, earlyOf};
-ghost use Rattle.early.specs.Slots.{IsEarly, firstUnused};
+ghost use Rattle.early.specs.Slots.{IsEarly, firstUnused, wants};
+use memory_structs::FrameRange;
 use model::EarlyList;
 use tables::Found;
 
@@ -62,19 +62,59 @@ pub fn insert(l: EarlyList, start: u64, end: u64) -> EarlyList
     }
 }
 
-// The first chunk that has n frames or more.
-pub fn first_large(l: EarlyList, n: u64) -> Found
+// What a search looks for.
+pub enum Wanted {
+    // A chunk with so many frames or more.
+    Large(u64),
+    // A chunk that has every frame of the range.
+    Holding(FrameRange),
+    // An entry that has a frame of the range.
+    Meeting(FrameRange),
+}
+
+// The first used slot whose range is wanted.
+pub fn first_wanted(l: EarlyList, wanted: Wanted) -> Found
     requires { ⌜ IsEarly l ⌝ }
-    ensures { λ r. ⌜ placeOf r ≡ largeEnough false n (slotsOf l) ⌝ }
+    ensures { λ r. ⌜ placeOf r ≡ firstWhere (wants wanted) (slotsOf l) ⌝ }
 {
     let mut i = 0;
     while i < 32 {
         if l.used[i] {
-            if tables::is_large(l.starts[i], l.ends[i], n) {
+            if is_wanted(wanted, l.starts[i], l.ends[i]) {
                 return Found::At(i);
             }
         }
         i += 1;
     }
     Found::Nowhere
+}
+
+// Whether the range from start to end is what is looked for.
+fn is_wanted(wanted: Wanted, start: u64, end: u64) -> bool
+    ensures { λ r. ⌜ r ≡ wants wanted (range start end) ⌝ }
+{
+    match wanted {
+        Wanted::Large(n) => tables::is_large(start, end, n),
+        Wanted::Holding(r) => is_inside(start, end, r.start, r.end),
+        Wanted::Meeting(r) => meet(r.start, r.end, start, end),
+    }
+}
+
+// Whether the range from start to end lies between the outer ends.
+fn is_inside(outer_start: u64, outer_end: u64, start: u64, end: u64) -> bool
+    ensures { λ r. ⌜ r ≡ inside (range «outer_start» «outer_end») (range start end) ⌝ }
+{
+    if start < outer_start {
+        return false;
+    }
+    end <= outer_end
+}
+
+// Whether two ranges have a frame in common.
+fn meet(a_start: u64, a_end: u64, b_start: u64, b_end: u64) -> bool
+    ensures { λ r. ⌜ r ≡ meets (range «a_start» «a_end») (range «b_start» «b_end») ⌝ }
+{
+    let start = if a_start < b_start { b_start } else { a_start };
+    let end = if a_end < b_end { a_end } else { b_end };
+    start <= end
 }
