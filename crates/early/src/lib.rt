@@ -2,9 +2,9 @@
 ghost use mathlib.Core.Path.{_≡_};
 ghost use mathlib.Core.Bool.{true, false};
 ghost use Prim.Native.Nat.{_+_, _-_, _<_};
-ghost use lib.ListN.{set};
+ghost use lib.ListN.{length, set};
 ghost use Rattle.memory_structs.specs.Range.{range, inside, meets};
-ghost use Rattle.model.specs.Lists.{used, firstWhere, insertEarly, remove};
+ghost use Rattle.model.specs.Lists.{used, entries, firstWhere, insertEarly, remove};
 ghost use Rattle.tables.specs.Words.{placeOf};
 ghost use Rattle.model.specs.Store.{slotsOf, earlyOf};
 ghost use Rattle.early.specs.Slots.{IsEarly, firstUnused, wants};
@@ -60,6 +60,22 @@ pub fn insert(l: EarlyList, start: u64, end: u64) -> EarlyList
         Found::At(i) => fill(l, i, start, end),
         Found::Nowhere => l,
     }
+}
+
+// How many slots are used.
+pub fn count(l: EarlyList) -> usize
+    requires { ⌜ IsEarly l ⌝ }
+    ensures { λ r. ⌜ r ≡ length (entries (slotsOf l)) ⌝ }
+{
+    let mut n = 0;
+    let mut i = 0;
+    while i < 32 {
+        if l.used[i] {
+            n += 1;
+        }
+        i += 1;
+    }
+    n
 }
 
 // What a search looks for.
