@@ -208,7 +208,7 @@ pub record Tidy (sorted : Bool) (s : List Slot) : Type 0 where
   pub few : count s ≤ bound sorted
   pub once : (f : ℕ) → tally f s ≤ 1
 
-tidy-is : (sorted : Bool) (s : List Slot) → tidy sorted s ≡ true → Tidy sorted s
+pub tidy-is : (sorted : Bool) (s : List Slot) → tidy sorted s ≡ true → Tidy sorted s
 unfolding tidy
 tidy-is sorted s e =
     let x = both (slotted sorted s) _ e in

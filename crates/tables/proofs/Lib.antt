@@ -3,3 +3,4 @@ pub mod Shift
 pub mod Search
 pub mod Halving
 pub mod Zeros
+pub mod Spaced
