@@ -4,3 +4,4 @@ pub mod Search
 pub mod Halving
 pub mod Zeros
 pub mod Spaced
+pub mod Touching

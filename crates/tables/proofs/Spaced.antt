@@ -1,10 +1,10 @@
 -- A tidy table has each range above the one before. So at most one pair has a frame, and it is the highest that starts at or below it.
-use Prim.Native.Nat.{ℕ, suc, _+_, _-_, _≤_, _<_}
+use Prim.Native.Nat.{ℕ, suc, _+_, _-_, _≤_}
 use native.Mathlib.Omega.{arith}
 use mathlib.Core.Path.{_≡_, refl, ap, _∙_}
 use mathlib.Core.Bool.{Bool, true, false}
 use mathlib.Core.List.{List, [], _∷_}
-use lib.Dec.{leb, eqb}
+use lib.Dec.{leb}
 use borrow.Author.Tests.{le-leb, leb-true, leb-false}
 use Rattle.memory_structs.specs.Choice.{if_then_else_}
 use Rattle.memory_structs.specs.declared.range.FrameRange.{FrameRange}
@@ -59,8 +59,8 @@ unfoldable pub kept : (FrameRange → Bool) → List Slot → Place → Place
 kept p s nowhere = nowhere
 kept p s (at i) = if p (rangeAt s i) then at i else nowhere
 
-module _ (p : FrameRange → Bool) (f : ℕ) (has : (r : FrameRange) → p r ≡ true → (r .start ≤ f) × (f ≤ r .end)) where
-  -- of the entry r and those after it, where r does not pass
+module _ (p : FrameRange → Bool) (f : ℕ) (has : (r : FrameRange) → r .start ≤ r .end → p r ≡ true → (r .start ≤ f) × (f ≤ r .end)) where
+  -- the place among r and the entries after it, where r does not pass
   kept-later : (r : FrameRange) (s : List Slot) (q : Place) (b : Bool) → p r ≡ false
              → later (kept p s q) ≡ kept p (used r ∷ s) (orElse (later q) (if b then at 0 else nowhere))
   unfolding kept later orElse rangeAt
@@ -84,5 +84,5 @@ module _ (p : FrameRange → Bool) (f : ℕ) (has : (r : FrameRange) → p r ≡
 
       go : (b : Bool) → p r ≡ b → firstWhere p s ≡ kept p s (highest s)
          → (if b then at 0 else later (firstWhere p s)) ≡ kept p (used r ∷ s) (orElse (later (highest s)) (if leb (r .start) f then at 0 else nowhere))
-      go true e ih = rw (none-below f (r .end + 1) s (omega (arith, has r e)) (spaced-rising (r .end + 1) s (a .2)), le-leb (r .start) f (has r e .0), e)
+      go true e ih = rw (none-below f (r .end + 1) s (omega (arith, has r (a .1) e)) (spaced-rising (r .end + 1) s (a .2)), le-leb (r .start) f (has r (a .1) e .0), e)
       go false e ih = ap later ih ∙ kept-later r s (highest s) (leb (r .start) f) e
