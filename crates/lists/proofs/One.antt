@@ -1,19 +1,24 @@
 -- The laws of one list in its two forms.
 use mathlib.Core.Path.{_≡_, refl, sym, ap, _∙_, subst}
 use mathlib.Core.Bool.{Bool, true, false}
-use mathlib.Core.List.{List, []}
-use Prim.Native.Nat.{ℕ, suc, _≤_}
+use mathlib.Core.List.{List, _∷_}
+use Prim.Native.Nat.{ℕ, suc, _+_, _-_, _≤_, _<_}
 use native.Mathlib.Omega.{arith}
-use lib.ListN.{length}
-use Rattle.model.specs.Lists.{Slot, entries}
+use lib.ListN.{length, take, drop, replicate, length-append, length-drop}
+use lib.Seq.{length-take-le}
+use Rattle.model.specs.Lists.{Slot, unused, used, entries, bound, remove, insertSorted}
 use Rattle.model.specs.Store.{slotsOf, earlyOf, tableSlots, tableWords, earlyIn, lengthIn, wordsIn}
 use Rattle.model.specs.Store as store
 use Rattle.model.proofs.Stored.{AllUsed, none, one, Storable, early, sorted, Kept, test-kept, table-length, table-used}
-use Rattle.tables.specs.Words.{IsTable}
+use Rattle.model.specs.declared.EarlyList.{EarlyList}
+use Rattle.model.proofs.Forms.{remove-run}
+use Rattle.memory_structs.specs.declared.range.FrameRange.{FrameRange}
+use Rattle.tables.specs.Words.{IsTable, insertAt, notAbove}
+use Rattle.tables.proofs.Search.{insert-is, above-bound}
 use Rattle.tables.proofs.Table.{is-table}
 use Rattle.early.specs.Slots.{IsEarly}
 use Rattle.lists.specs.declared.OneList.{OneList}
-use Rattle.lists.specs.One.{IsList, slotsIn}
+use Rattle.lists.specs.One.{IsList, slotsIn, oneOf, Stored}
 
 -- what holds in each form, of anything that goes by the form and the slots
 pub at-sorted : {A : Type 0} (f : Bool → List Slot → A) (l : OneList) (ws : List ℕ) → l .sorted ≡ true → f (l .sorted) (slotsIn l ws) ≡ f true (tableSlots (l .len) ws)
@@ -57,3 +62,56 @@ module _ (l : OneList) (ws : List ℕ) (t : IsList l ws) where
 
   pub early-length : l .sorted ≡ false → length (slotsIn l ws) ≡ 32
   early-length e = at-early (λ b s. length s) l ws e ∙ as-early e .size
+
+-- how long a table is after a removal, and after an insert
+pub length-removed : (i k : ℕ) (s : List Slot) → i + k ≤ length s → length (remove true i k s) ≡ length s - k
+length-removed i k s h =
+    ap length (remove-run i k s) ∙ length-append (take i s) (drop (i + k) s)
+    ∙ omega (arith, length-take-le i s (omega arith), length-drop (i + k) s)
+
+pub length-inserted : (r : FrameRange) (s : List Slot) → length (insertSorted r s) ≡ length s + 1
+unfolding insertAt
+length-inserted r s =
+    let n = notAbove (r .start) s in
+    ap length (insert-is r s) ∙ length-append (take n s) (used r ∷ drop n s)
+    ∙ omega (arith, above-bound (r .start) s, length-take-le n s (above-bound (r .start) s), length-drop n s)
+
+-- room for one more entry
+pub room : (l : OneList) (ws : List ℕ) → IsList l ws → l .sorted ≡ true → length (entries (slotsIn l ws)) < bound (l .sorted) → l .len < 512
+unfolding bound
+room l ws t e h =
+    let k : length (entries (slotsIn l ws)) < 512 = subst (λ (b : Bool). length (entries (slotsIn l ws)) < bound b) e h in
+    omega (arith, sorted-count l ws t e)
+
+abbrev made : Bool → EarlyList → ℕ → OneList
+made b e n = record { sorted = b; early = e; len = n }
+
+-- what an operation leaves, in each form
+module _ (f : Bool → List Slot → List Slot) (l : OneList) (ws : List ℕ) (t : IsList l ws) where
+  pub sorted-after : l .sorted ≡ true → (n : ℕ) (after : List ℕ) → n ≡ length (f true (tableSlots (l .len) ws)) → after ≡ tableWords (f true (tableSlots (l .len) ws))
+      → Stored (l .sorted) (f (l .sorted) (slotsIn l ws)) ws (record { sorted = l .sorted; early = l .early; len = n }) after
+  unfolding earlyIn lengthIn wordsIn
+  sorted-after e n after h w =
+      let idle : l .early ≡ earlyOf (replicate 32 unused) = sym (kept l ws t true e .slots) in
+      record {
+        list =
+            ap (λ (b : Bool). made b (l .early) n) e
+            ∙ ap (λ (x : EarlyList). made true x n) idle
+            ∙ ap (λ (k : ℕ). made true (earlyOf (replicate 32 unused)) k) h
+            ∙ sym (at-sorted (λ b s. oneOf b (f b s)) l ws e);
+        words = w ∙ sym (at-sorted (λ b s. wordsIn b (f b s) ws) l ws e);
+      }
+
+  pub early-after : l .sorted ≡ false → (x : EarlyList) → x ≡ earlyOf (f false (slotsOf (l .early)))
+      → Stored (l .sorted) (f (l .sorted) (slotsIn l ws)) ws (record { sorted = l .sorted; early = x; len = l .len }) ws
+  unfolding earlyIn lengthIn wordsIn
+  early-after e x h =
+      let none : l .len ≡ 0 = sym (kept l ws t false e .len) in
+      record {
+        list =
+            ap (λ (b : Bool). made b x (l .len)) e
+            ∙ ap (λ (k : ℕ). made false x k) none
+            ∙ ap (λ (y : EarlyList). made false y 0) h
+            ∙ sym (at-early (λ b s. oneOf b (f b s)) l ws e);
+        words = sym (at-early (λ b s. wordsIn b (f b s) ws) l ws e);
+      }

@@ -1,11 +1,15 @@
 // One of the four lists, in whichever form it has: 32 slots in the record, or a table in its own part of the lent workspace.
 ghost use mathlib.Core.Path.{_≡_};
-ghost use Prim.Native.Nat.{_<_};
+ghost use mathlib.Core.Bool.{true, false};
+ghost use Prim.Native.Nat.{_+_, _≤_, _<_};
 ghost use lib.ListN.{length};
-ghost use Rattle.model.specs.Lists.{entries, rangeAt};
+ghost use Rattle.memory_structs.specs.Range.{range};
+ghost use Rattle.model.specs.Lists as model;
+ghost use Rattle.model.specs.Lists.{entries, rangeAt, bound};
+ghost use Rattle.model.specs.Rules.{slotted};
 ghost use Rattle.model.specs.Requests.{largeEnough};
 ghost use Rattle.tables.specs.Words.{placeOf};
-ghost use Rattle.lists.specs.One.{IsList, slotsIn};
+ghost use Rattle.lists.specs.One.{IsList, slotsIn, Stored};
 use memory_structs::FrameRange;
 use model::EarlyList;
 use tables::Found;
@@ -51,4 +55,35 @@ pub fn entry(l: OneList, t: &[u64], i: usize) -> FrameRange
     }
     let e = l.early;
     FrameRange::new(e.starts[i], e.ends[i])
+}
+
+// The k slots from i on are taken out; in early form the one slot is emptied.
+pub fn remove(mut l: OneList, t: &mut [u64], i: usize, k: usize) -> OneList
+    requires { ⌜ IsList l (now t) ⌝ }
+    requires { ⌜ (i + k ≤ length (slotsIn l (now t))) × (l .sorted ≡ false → k ≡ 1) ⌝ }
+    ensures { λ r. ⌜ Stored (l .sorted) (model.remove (l .sorted) i k (slotsIn l (now (t .entry)))) (now (t .entry)) r (now (t .exit)) ⌝ }
+{
+    if l.sorted {
+        tables::remove_at(t, l.len, i, k);
+        l.len -= k;
+        return l;
+    }
+    l.early = early::empty(l.early, i);
+    l
+}
+
+// The range goes in: into the first slot that is not used, in sorted form where its start belongs.
+pub fn insert(mut l: OneList, t: &mut [u64], start: u64, end: u64) -> OneList
+    requires { ⌜ IsList l (now t) ⌝ }
+    requires { ⌜ slotted (l .sorted) (slotsIn l (now t)) ≡ true ⌝ }
+    requires { ⌜ length (entries (slotsIn l (now t))) < bound (l .sorted) ⌝ }
+    ensures { λ r. ⌜ Stored (l .sorted) (model.insert (l .sorted) (range start end) (slotsIn l (now (t .entry)))) (now (t .entry)) r (now (t .exit)) ⌝ }
+{
+    if l.sorted {
+        tables::insert(t, l.len, start, end);
+        l.len += 1;
+        return l;
+    }
+    l.early = early::insert(l.early, start, end);
+    l
 }
