@@ -3,10 +3,10 @@ ghost use mathlib.Core.Path.{_≡_};
 ghost use mathlib.Core.Bool.{true, false};
 ghost use Prim.Native.Nat.{_+_, _≤_, _<_};
 ghost use lib.ListN.{length};
-ghost use Rattle.memory_structs.specs.Range.{range};
+ghost use Rattle.memory_structs.specs.Range as range;
 ghost use Rattle.model.specs.Lists as model;
-ghost use Rattle.model.specs.Lists.{entries, rangeAt, bound};
-ghost use Rattle.model.specs.Rules.{slotted};
+ghost use Rattle.model.specs.Lists.{entries, rangeAt, anyOf, bound};
+ghost use Rattle.model.specs.Rules.{slotted, tidy};
 ghost use Rattle.model.specs.Requests.{largeEnough};
 ghost use Rattle.tables.specs.Words.{placeOf};
 ghost use Rattle.lists.specs.One.{IsList, slotsIn, Stored};
@@ -57,6 +57,26 @@ pub fn entry(l: OneList, t: &[u64], i: usize) -> FrameRange
     FrameRange::new(e.starts[i], e.ends[i])
 }
 
+// Whether an entry has a frame of the range.
+pub fn meets(l: OneList, t: &[u64], start: u64, end: u64) -> bool
+    requires { ⌜ IsList l (now t) ⌝ }
+    requires { ⌜ tidy (l .sorted) (slotsIn l (now t)) ≡ true ⌝ }
+    requires { ⌜ start ≤ end ⌝ }
+    ensures { λ r. ⌜ r ≡ anyOf (range.meets (range.range start end)) (entries (slotsIn l (now (t .entry)))) ⌝ }
+{
+    if l.sorted {
+        // Only the highest entry that starts at or below the end can meet it.
+        return match tables::highest_at_or_below(t, l.len, end) {
+            Found::At(i) => start <= t[2 * i + 1],
+            Found::Nowhere => false,
+        };
+    }
+    match early::first_wanted(l.early, Wanted::Meeting(FrameRange::new(start, end))) {
+        Found::At(_) => true,
+        Found::Nowhere => false,
+    }
+}
+
 // The k slots from i on are taken out; in early form the one slot is emptied.
 pub fn remove(mut l: OneList, t: &mut [u64], i: usize, k: usize) -> OneList
     requires { ⌜ IsList l (now t) ⌝ }
@@ -77,7 +97,7 @@ pub fn insert(mut l: OneList, t: &mut [u64], start: u64, end: u64) -> OneList
     requires { ⌜ IsList l (now t) ⌝ }
     requires { ⌜ slotted (l .sorted) (slotsIn l (now t)) ≡ true ⌝ }
     requires { ⌜ length (entries (slotsIn l (now t))) < bound (l .sorted) ⌝ }
-    ensures { λ r. ⌜ Stored (l .sorted) (model.insert (l .sorted) (range start end) (slotsIn l (now (t .entry)))) (now (t .entry)) r (now (t .exit)) ⌝ }
+    ensures { λ r. ⌜ Stored (l .sorted) (model.insert (l .sorted) (range.range start end) (slotsIn l (now (t .entry)))) (now (t .entry)) r (now (t .exit)) ⌝ }
 {
     if l.sorted {
         tables::insert(t, l.len, start, end);

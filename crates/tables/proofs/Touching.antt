@@ -32,7 +32,7 @@ later-bound nowhere true n i h e = let z : 0 ≡ i = cc in omega arith
 later-bound nowhere false n i h e = absurd (let z : _≡_ {A = ℕ} 0 1 = cc in omega arith)
 later-bound (at j) b n i h e = let z : suc j ≡ i = cc in omega (arith, h j refl)
 
-last-bound : (p : FrameRange → Bool) (s : List Slot) (i : ℕ) → lastWhere p s ≡ at i → i < length s
+pub last-bound : (p : FrameRange → Bool) (s : List Slot) (i : ℕ) → lastWhere p s ≡ at i → i < length s
 unfolding lastWhere orElse
 last-bound p [] i e = absurd (let z : _≡_ {A = ℕ} 0 1 = cc in omega arith)
 last-bound p (unused ∷ s) i e = later-bound (lastWhere p s) false (length s) i (last-bound p s) (or-nowhere (later (lastWhere p s)) ∙ e)

@@ -1,0 +1,97 @@
+-- Whether an entry meets a range: by the highest entry that starts at or below its end, or by the first that is found.
+use mathlib.Core.Path.{_≡_, refl, sym, ap, _∙_}
+use mathlib.Core.Bool.{Bool, true, false, _||_}
+use mathlib.Core.List.{List, [], _∷_}
+use Prim.Native.Nat.{ℕ, zero, suc, _+_, _≤_, _<_, min, max}
+use native.Mathlib.Omega.{arith}
+use lib.ListN.{length}
+use lib.Dec.{leb}
+use borrow.Author.Tests.{le-leb, lt-leb, leb-true, leb-false}
+use Rattle.memory_structs.specs.Choice.{if_then_else_}
+use Rattle.memory_structs.specs.Range.{meets}
+use Rattle.memory_structs.specs.declared.range.FrameRange.{FrameRange}
+use Rattle.model.specs.Lists.{Slot, unused, used, entries, anyOf, Place, nowhere, at, later, orElse, firstWhere, lastWhere, rangeAt}
+use Rattle.tables.proofs.Search.{leb-same}
+use Rattle.model.specs.Rules.{tidy}
+use Rattle.model.specs.Store.{slotsOf, tableSlots}
+use Rattle.tables.proofs.Spaced.{Spaced, tidy-spaced}
+use Rattle.tables.proofs.Touching.{last-bound}
+use Rattle.lists.specs.declared.OneList.{OneList}
+use Rattle.lists.specs.One.{slotsIn}
+use Rattle.lists.proofs.One.{at-sorted, at-early}
+
+-- a search that ends somewhere, or nowhere
+abbrev pub somewhere : Place → Bool
+somewhere nowhere = false
+somewhere (at i) = true
+
+later-somewhere : (q : Place) → somewhere (later q) ≡ somewhere q
+unfolding later
+later-somewhere nowhere = refl
+later-somewhere (at i) = refl
+
+pub any-first : (p : FrameRange → Bool) (s : List Slot) → somewhere (firstWhere p s) ≡ anyOf p (entries s)
+unfolding firstWhere anyOf entries
+any-first p [] = refl
+any-first p (unused ∷ s) = later-somewhere (firstWhere p s) ∙ any-first p s
+any-first p (used r ∷ s) = go (p r) (any-first p s)
+  where
+    go : (b : Bool) → somewhere (firstWhere p s) ≡ anyOf p (entries s) → somewhere (if b then at 0 else later (firstWhere p s)) ≡ (b || anyOf p (entries s))
+    go true e = refl
+    go false e = later-somewhere (firstWhere p s) ∙ e
+
+-- the entry at a place ends at m or above
+unfoldable pub reaches : ℕ → List Slot → Place → Bool
+reaches m s nowhere = false
+reaches m s (at i) = leb m (rangeAt s i .end)
+
+ends-above : (m : ℕ) (s : List Slot) (i : ℕ) → Spaced m s → i < length s → m ≤ rangeAt s i .end
+unfolding Spaced rangeAt
+ends-above m [] i a h = absurd (omega arith)
+ends-above m (unused ∷ s) i a h = absurd a
+ends-above m (used r ∷ s) zero a h = omega (arith, a .0, a .1)
+ends-above m (used r ∷ s) (suc i) a h = omega (arith, a .0, a .1, ends-above (r .end + 1) s i (a .2) (omega arith))
+
+or-false : (b : Bool) → (b || false) ≡ b
+or-false true = refl
+or-false false = refl
+
+-- r meets c, or what stands above c reaches r
+either : (r c : FrameRange) (e : ℕ) (b : Bool) → meets r c ≡ b → c .end < e → (b || leb (r .start) e) ≡ leb (r .start) e
+either r c e true p h = sym (le-leb (r .start) e (omega (arith, leb-true (max (r .start) (c .start)) (min (r .end) (c .end)) p)))
+either r c e false p h = refl
+
+-- c is the highest that starts at or below the end of r, where it does
+alone : (r c : FrameRange) (b : Bool) → leb (c .start) (r .end) ≡ b → r .start ≤ r .end → c .start ≤ c .end → (meets r c || false) ≡ (if b then leb (r .start) (c .end) else false)
+alone r c true p h k = or-false (meets r c) ∙ leb-same (max (r .start) (c .start)) (min (r .end) (c .end)) (r .start) (c .end) (λ x. omega arith) (λ x. omega (arith, leb-true (c .start) (r .end) p))
+alone r c false p h k = or-false (meets r c) ∙ lt-leb (max (r .start) (c .start)) (min (r .end) (c .end)) (omega (arith, leb-false (c .start) (r .end) p))
+
+pub highest-meets : (r : FrameRange) → r .start ≤ r .end → (m : ℕ) (s : List Slot) → Spaced m s
+    → anyOf (meets r) (entries s) ≡ reaches (r .start) s (lastWhere (λ c. leb (c .start) (r .end)) s)
+unfolding Spaced anyOf entries lastWhere reaches orElse later rangeAt
+highest-meets r h m [] a = refl
+highest-meets r h m (unused ∷ s) a = absurd a
+highest-meets r h m (used c ∷ s) a = go (lastWhere (λ x. leb (x .start) (r .end)) s) refl (highest-meets r h (c .end + 1) s (a .2))
+  where
+    shown : (b : Bool) → (if b then leb (r .start) (c .end) else false) ≡ reaches (r .start) (used c ∷ s) (if b then at 0 else nowhere)
+    shown true = refl
+    shown false = refl
+
+    go : (q : Place) → lastWhere (λ x. leb (x .start) (r .end)) s ≡ q → anyOf (meets r) (entries s) ≡ reaches (r .start) s q
+       → (meets r c || anyOf (meets r) (entries s)) ≡ reaches (r .start) (used c ∷ s) (orElse (later q) (if leb (c .start) (r .end) then at 0 else nowhere))
+    go nowhere e ih = ap (λ (b : Bool). meets r c || b) ih ∙ alone r c (leb (c .start) (r .end)) refl h (a .1) ∙ shown (leb (c .start) (r .end))
+    go (at j) e ih =
+        ap (λ (b : Bool). meets r c || b) ih
+        ∙ either r c (rangeAt s j .end) (meets r c) refl (omega (arith, ends-above (c .end + 1) s j (a .2) (last-bound (λ x. leb (x .start) (r .end)) s j e)))
+
+-- the two forms
+pub met-sorted : (r : FrameRange) (l : OneList) (ws : List ℕ) → r .start ≤ r .end → l .sorted ≡ true → tidy (l .sorted) (slotsIn l ws) ≡ true
+    → (q : Place) → q ≡ lastWhere (λ c. leb (c .start) (r .end)) (tableSlots (l .len) ws) → reaches (r .start) (tableSlots (l .len) ws) q ≡ anyOf (meets r) (entries (slotsIn l ws))
+met-sorted r l ws h e t q found =
+    ap (reaches (r .start) (tableSlots (l .len) ws)) found
+    ∙ sym (highest-meets r h 0 (tableSlots (l .len) ws) (tidy-spaced (tableSlots (l .len) ws) (sym (at-sorted tidy l ws e) ∙ t)))
+    ∙ sym (at-sorted (λ b s. anyOf (meets r) (entries s)) l ws e)
+
+pub met-early : (r : FrameRange) (l : OneList) (ws : List ℕ) → l .sorted ≡ false
+    → (q : Place) → q ≡ firstWhere (meets r) (slotsOf (l .early)) → somewhere q ≡ anyOf (meets r) (entries (slotsIn l ws))
+met-early r l ws e q found = ap somewhere found ∙ any-first (meets r) (slotsOf (l .early)) ∙ sym (at-early (λ b s. anyOf (meets r) (entries s)) l ws e)

@@ -1,0 +1,126 @@
+-- `lists::meets`: by the highest entry at or below the end, or by the first that meets.
+use native.Mathlib.Omega.{arith}
+use mathlib.Core.Path.{_≡_, sym, ap, _∙_}
+use Prim.Native.Nat.{_<_, _≤_}
+use lib.ListN.{length}
+use lib.Dec.{leb}
+use borrow.Author.Needs.{needs}
+use Rattle.memory_structs.specs.Range.{range, meets}
+use Rattle.memory_structs.specs.declared.range.FrameRange.{FrameRange}
+use Rattle.model.specs.Lists.{at, nowhere, firstWhere, lastWhere}
+use Rattle.model.specs.Rules.{tidy}
+use Rattle.model.specs.Store.{slotsOf, tableSlots}
+use Rattle.tables.specs.Words.{placeOf}
+use Rattle.tables.proofs.Search.{range-at}
+use Rattle.tables.proofs.Touching.{tidy-rising, pair-bound}
+use Rattle.early.specs.Slots.{wants}
+use Rattle.lists.proofs.One.{as-table, as-early, at-sorted}
+use Rattle.lists.proofs.Meeting.{reaches, met-sorted, met-early}
+use Rattle.lists.proofs.meets.Statement.{statement}
+use Rattle.lists.proofs.meets.Tie as tie
+
+highest-at-or-below-requires : tie.Need-highest-at-or-below-requires
+highest-at-or-below-requires c κs =
+    let s = c .before .before in
+    let t = as-table (s .args .l) (s .args .t .now) (s .pre .0) (c .if1 .taken) in
+    (omega (arith, t .fits, t .size), tidy-rising _ (sym (at-sorted tidy (s .args .l) (s .args .t .now) (c .if1 .taken)) ∙ s .pre .1 .0))
+
+enum-known-i : tie.Need-enum-known-i
+enum-known-i c = search needs
+
+-- the pair that was found
+found : (c : tie.After-i) → at (c .i .given .0 .0) ≡ lastWhere (λ (r : FrameRange). leb (r .start) (c .before .before .before .before .before .args .end)) (tableSlots (c .before .before .before .before .before .args .l .len) (c .before .before .before .before .before .args .t .now))
+found c = sym (ap placeOf (c .i .given .1)) ∙ c .before .before .highest-at-or-below .ensures
+
+in-table : (c : tie.After-i) → (c .i .given .0 .0 < c .before .before .before .before .before .args .l .len) × (c .before .before .before .before .before .args .l .len ≤ 512) × (length (c .before .before .before .before .before .args .t .now) ≡ 1024)
+in-table c =
+    let m = c .before .before .before in
+    let s = m .before .before in
+    let t = as-table (s .args .l) (s .args .t .now) (s .pre .0) (m .if1 .taken) in
+    (pair-bound _ _ _ _ (found c), t .fits, t .size)
+
+mul-result : tie.Need-mul-result
+mul-result c = omega (arith, in-table (c .before))
+
+add-result : tie.Need-add-result
+add-result c = omega (arith, in-table (c .before))
+
+mul-result-2 : tie.Need-mul-result-2
+mul-result-2 c = omega (arith, in-table (c .before))
+
+shared-slice-read-result : tie.Need-shared-slice-read-result
+shared-slice-read-result c = omega (arith, in-table (c .before .before))
+
+enum-told : tie.Need-enum-told
+enum-told c = search needs
+
+returns : tie.Need-returns
+unfolding reaches
+returns c =
+    let k = c .before .before in
+    let m = k .before .before .before in
+    let s = m .before .before in
+    let a = s .args in
+    ap (λ (r : FrameRange). leb (a .start) (r .end)) (range-at (a .l .len) (k .i .given .0 .0) (a .t .now) (pair-bound _ _ _ _ (found k)))
+    ∙ met-sorted (range (a .start) (a .end)) (a .l) (a .t .now) (s .pre .1 .1) (m .if1 .taken) (s .pre .1 .0) (at (k .i .given .0 .0)) (found k)
+
+returns-2 : tie.Need-returns-2
+unfolding reaches
+returns-2 c =
+    let k = c .before .before in
+    let s = k .before .before .before in
+    let a = s .args in
+    met-sorted (range (a .start) (a .end)) (a .l) (a .t .now) (s .pre .1 .1) (k .before .if1 .taken) (s .pre .1 .0) nowhere (sym (ap placeOf (c .enum-told .given .1)) ∙ k .highest-at-or-below .ensures)
+
+new-requires : tie.Need-new-requires
+new-requires c κs = search needs
+
+first-wanted-requires : tie.Need-first-wanted-requires
+first-wanted-requires c κs = let s = c .before .before .before in as-early (s .args .l) (s .args .t .now) (s .pre .0) (c .before .if1 .left)
+
+enum-told-2 : tie.Need-enum-told-2
+enum-told-2 c = search needs
+
+enum-told-3 : tie.Need-enum-told-3
+enum-told-3 c = search needs
+
+-- what the search of the slots answers
+first : (c : tie.After-first-wanted) → placeOf (c .first-wanted .result) ≡ firstWhere (meets (range (c .before .before .before .before .args .start) (c .before .before .before .before .args .end))) (slotsOf (c .before .before .before .before .args .l .early))
+unfolding wants
+first c =
+    let a = c .before .before .before .before .args in
+    c .first-wanted .ensures ∙ ap (λ (r : FrameRange). firstWhere (meets r) (slotsOf (a .l .early))) (c .before .new .ensures)
+
+returns-3 : tie.Need-returns-3
+returns-3 c =
+    let k = c .before .before in
+    let s = k .before .before .before .before in
+    let a = s .args in
+    met-early (range (a .start) (a .end)) (a .l) (a .t .now) (k .before .before .if1 .left) (at _) (sym (ap placeOf (c .enum-told2 .given .1)) ∙ first k)
+
+returns-4 : tie.Need-returns-4
+returns-4 c =
+    let k = c .before .before in
+    let s = k .before .before .before .before in
+    let a = s .args in
+    met-early (range (a .start) (a .end)) (a .l) (a .t .now) (k .before .before .if1 .left) nowhere (sym (ap placeOf (c .enum-told3 .given .1)) ∙ first k)
+
+pub meets-spec : {M : Type 1} → statement M
+meets-spec =
+    tie.close
+    (tie.spec
+    highest-at-or-below-requires
+    enum-known-i
+    mul-result
+    add-result
+    mul-result-2
+    shared-slice-read-result
+    enum-told
+    returns
+    returns-2
+    new-requires
+    first-wanted-requires
+    enum-told-2
+    enum-told-3
+    returns-3
+    returns-4)
