@@ -11,7 +11,6 @@ use Rattle.memory_structs.specs.declared.range.FrameRange.{FrameRange}
 use Rattle.model.specs.declared.EarlyList.{EarlyList}
 use Rattle.early.proofs.First.{passes, isUnused}
 use Rattle.model.specs.Store.{slotOf, rangeIn, isUsed, zipped, slotsOf, earlyOf}
-use Rattle.model.proofs.Stored.{early-again}
 use Rattle.early.specs.Slots.{IsEarly}
 
 zip-at : (i : ℕ) (ss es : List ℕ) (us : List Bool) → i < length (zipped ss es us) → getD (zipped ss es us) i unused ≡ slotOf (getD us i false) (range (getD ss i 0) (getD es i 0))
@@ -26,9 +25,6 @@ zip-at (suc i) (s ∷ ss) (e ∷ es) (u ∷ us) h = zip-at i ss es us (omega ari
 pub slot-at : (l : EarlyList) (i : ℕ) → IsEarly l → i < 32 → getD (slotsOf l) i unused ≡ slotOf (getD (l .used) i false) (range (getD (l .starts) i 0) (getD (l .ends) i 0))
 unfolding slotsOf
 slot-at l i t h = zip-at i (l .starts) (l .ends) (l .used) (omega arith)
-
-pub is-early : (s : List Slot) → length s ≡ 32 → IsEarly (earlyOf s)
-is-early s h = record { size = ap length (early-again s) ∙ h; plain = ap earlyOf (early-again s) }
 
 map-set : {B : Type 0} (f : Slot → B) (s : List Slot) (i : ℕ) (x : Slot) → set (map f s) i (f x) ≡ map f (set s i x)
 map-set f [] i x = refl

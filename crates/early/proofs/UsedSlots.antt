@@ -20,7 +20,7 @@ usedFrom i l = length (entries (drop i (slotsOf l)))
 module _ (l : EarlyList) (i : ℕ) (t : IsEarly l) (h : i < 32) where
   -- the slot i, and those after it
   parts : (b : Bool) → getD (l .used) i false ≡ b
-        → usedFrom i l ≡ length (entries (slotOf b (range (getD (l .starts) i 0) (getD (l .ends) i 0)) ∷ drop (i + 1) (slotsOf l)))
+      → usedFrom i l ≡ length (entries (slotOf b (range (getD (l .starts) i 0) (getD (l .ends) i 0)) ∷ drop (i + 1) (slotsOf l)))
   parts b e =
       ap (λ (s : List Slot). length (entries s)) (drop-cons (slotsOf l) i unused (omega arith))
       ∙ rw (slot-at l i t h, e, add-one i)

@@ -1,6 +1,6 @@
 -- Whether an entry meets a range: by the highest entry that starts at or below its end, or by the first that is found.
 use mathlib.Core.Path.{_≡_, refl, sym, ap, _∙_}
-use mathlib.Core.Bool.{Bool, true, false, _||_}
+use mathlib.Core.Bool.{Bool, true, false, _||_, or-false}
 use mathlib.Core.List.{List, [], _∷_}
 use Prim.Native.Nat.{ℕ, zero, suc, _+_, _≤_, _<_, min, max}
 use native.Mathlib.Omega.{arith}
@@ -52,10 +52,6 @@ ends-above m (unused ∷ s) i a h = absurd a
 ends-above m (used r ∷ s) zero a h = omega (arith, a .0, a .1)
 ends-above m (used r ∷ s) (suc i) a h = omega (arith, a .0, a .1, ends-above (r .end + 1) s i (a .2) (omega arith))
 
-or-false : (b : Bool) → (b || false) ≡ b
-or-false true = refl
-or-false false = refl
-
 -- r meets c, or what stands above c reaches r
 either : (r c : FrameRange) (e : ℕ) (b : Bool) → meets r c ≡ b → c .end < e → (b || leb (r .start) e) ≡ leb (r .start) e
 either r c e true p h = sym (le-leb (r .start) e (omega (arith, leb-true (max (r .start) (c .start)) (min (r .end) (c .end)) p)))
@@ -78,7 +74,7 @@ highest-meets r h m (used c ∷ s) a = go (lastWhere (λ x. leb (x .start) (r .e
     shown false = refl
 
     go : (q : Place) → lastWhere (λ x. leb (x .start) (r .end)) s ≡ q → anyOf (meets r) (entries s) ≡ reaches (r .start) s q
-       → (meets r c || anyOf (meets r) (entries s)) ≡ reaches (r .start) (used c ∷ s) (orElse (later q) (if leb (c .start) (r .end) then at 0 else nowhere))
+        → (meets r c || anyOf (meets r) (entries s)) ≡ reaches (r .start) (used c ∷ s) (orElse (later q) (if leb (c .start) (r .end) then at 0 else nowhere))
     go nowhere e ih = ap (λ (b : Bool). meets r c || b) ih ∙ alone r c (leb (c .start) (r .end)) refl h (a .1) ∙ shown (leb (c .start) (r .end))
     go (at j) e ih =
         ap (λ (b : Bool). meets r c || b) ih

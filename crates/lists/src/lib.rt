@@ -10,10 +10,10 @@ ghost use Rattle.model.specs.Rules.{slotted, tidy};
 ghost use Rattle.model.specs.Requests.{largeEnough};
 ghost use Rattle.tables.specs.Words.{placeOf};
 ghost use Rattle.lists.specs.One.{IsList, slotsIn, Stored};
+use early::Wanted;
 use memory_structs::FrameRange;
 use model::EarlyList;
 use tables::Found;
-use early::Wanted;
 
 // In sorted form the list is the first `len` pairs of the table that is lent beside it, and every slot is unused.
 pub struct OneList {

@@ -103,25 +103,6 @@ Used (used r ∷ s) zero = Unit {0}
 Used (unused ∷ s) (suc i) = Used s i
 Used (used r ∷ s) (suc i) = Used s i
 
-pub remove-count : (sorted : Bool) (i : ℕ) (s : List Slot) → Used s i → suc (count (removeOne sorted i s)) ≡ count s
-unfolding entries removeOne Used
-remove-count sorted i [] u = absurd u
-remove-count sorted zero (unused ∷ s) u = absurd u
-remove-count true zero (used r ∷ s) u = refl
-remove-count false zero (used r ∷ s) u = refl
-remove-count sorted (suc i) (unused ∷ s) u = remove-count sorted i s u
-remove-count sorted (suc i) (used r ∷ s) u = ap suc (remove-count sorted i s u)
-
-pub remove-fewer : (sorted : Bool) (i : ℕ) (s : List Slot) → count (removeOne sorted i s) ≤ count s
-unfolding entries removeOne
-remove-fewer sorted i [] = omega arith
-remove-fewer true zero (unused ∷ s) = omega arith
-remove-fewer false zero (unused ∷ s) = omega arith
-remove-fewer true zero (used r ∷ s) = omega arith
-remove-fewer false zero (used r ∷ s) = omega arith
-remove-fewer sorted (suc i) (unused ∷ s) = remove-fewer sorted i s
-remove-fewer sorted (suc i) (used r ∷ s) = omega (arith, remove-fewer sorted i s)
-
 pub replace-tally : (i : ℕ) (r : FrameRange) (s : List Slot) → Used s i → (f : ℕ) → tally f (replaceAt i r s) + cov (rangeAt s i) f ≡ cov r f + tally f s
 unfolding tally replaceAt rangeAt Used
 replace-tally i r [] u f = absurd u
@@ -129,14 +110,6 @@ replace-tally zero r (unused ∷ s) u f = absurd u
 replace-tally zero r (used x ∷ s) u f = omega arith
 replace-tally (suc i) r (unused ∷ s) u f = replace-tally i r s u f
 replace-tally (suc i) r (used x ∷ s) u f = omega (arith, replace-tally i r s u f)
-
-pub replace-count : (i : ℕ) (r : FrameRange) (s : List Slot) → Used s i → count (replaceAt i r s) ≡ count s
-unfolding entries replaceAt Used
-replace-count i r [] u = absurd u
-replace-count zero r (unused ∷ s) u = absurd u
-replace-count zero r (used x ∷ s) u = refl
-replace-count (suc i) r (unused ∷ s) u = replace-count i r s u
-replace-count (suc i) r (used x ∷ s) u = ap suc (replace-count i r s u)
 
 -- a found slot is used and passes the test
 unfoldable pub Hit : (FrameRange → Bool) → List Slot → Place → Type 0

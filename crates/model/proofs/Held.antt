@@ -10,7 +10,8 @@ use borrow.Author.Tests.{leb-true, leb-false, eqb-true, eqb-false, eq-eqb, ne-eq
 use Rattle.memory_structs.specs.Choice.{if_then_else_}
 use Rattle.memory_structs.specs.Range.{range, covers, top}
 use Rattle.model.specs.Lists.{Lists, Slot, unused, used, entries, anyOf, bound, times}
-use Rattle.model.specs.Queries.{isHeld, begins, atRegions, aboveChunks, heldStarts, Run, AllRuns, HeldList, pairs, written, HeldWritten}
+use Rattle.model.specs.Rules.{Each}
+use Rattle.model.specs.Queries.{isHeld, begins, atRegions, aboveChunks, heldStarts, Run, HeldList, pairs, written, HeldWritten}
 use Rattle.memory_structs.proofs.Bools.{if-cases, both, both-first, both-second}
 use Rattle.memory_structs.proofs.Bounds.{same-ends}
 use Rattle.memory_structs.proofs.Cover.{cov, cov-in, cov-below, cov-above, cov-cases, covers-low, covers-high, covers-between}
@@ -384,14 +385,14 @@ known {l} {q} {r} u v f c = go (covers q f) refl
     go false e = sym (ne-eqb _ _ (λ h. true≢false (sym c ∙ ap (λ (x : FrameRange). covers x f) (sym (same h)) ∙ e)))
 
 -- so the runs of a list that cover a frame are those with that start
-times-firsts : {l : Lists} {r : FrameRange} (rs : List FrameRange) → AllRuns l rs → Run l r → (f : ℕ) → covers r f ≡ true → times f rs ≡ occurs (r .start) (firsts rs)
-unfolding times occurs firsts AllRuns
+times-firsts : {l : Lists} {r : FrameRange} (rs : List FrameRange) → Each (Run l) rs → Run l r → (f : ℕ) → covers r f ≡ true → times f rs ≡ occurs (r .start) (firsts rs)
+unfolding times occurs firsts Each
 times-firsts [] a u f c = refl
 times-firsts (q ∷ rs) a u f c = omega (arith, ap bit (known (a .0) u f c), times-firsts rs (a .1) u f c)
 
 -- a frame that is not held is in no run, and a frame at which none begins starts none
-times-none : (l : Lists) (rs : List FrameRange) → AllRuns l rs → (f : ℕ) → isHeld l f ≡ false → times f rs ≡ 0
-unfolding times AllRuns
+times-none : (l : Lists) (rs : List FrameRange) → Each (Run l) rs → (f : ℕ) → isHeld l f ≡ false → times f rs ≡ 0
+unfolding times Each
 times-none l [] a f h = refl
 times-none l (q ∷ rs) a f h = go (covers q f) refl (times-none l rs (a .1) f h)
   where
@@ -399,8 +400,8 @@ times-none l (q ∷ rs) a f h = go (covers q f) refl (times-none l rs (a .1) f h
     go true e ih = absurd (true≢false (sym (a .0 .held f e) ∙ h))
     go false e ih = omega arith
 
-firsts-none : (l : Lists) (rs : List FrameRange) → AllRuns l rs → (f : ℕ) → begins l f ≡ false → occurs f (firsts rs) ≡ 0
-unfolding occurs firsts AllRuns
+firsts-none : (l : Lists) (rs : List FrameRange) → Each (Run l) rs → (f : ℕ) → begins l f ≡ false → occurs f (firsts rs) ≡ 0
+unfolding occurs firsts Each
 firsts-none l [] a f h = refl
 firsts-none l (q ∷ rs) a f h = go (eqb (q .start) f) refl (firsts-none l rs (a .1) f h)
   where
@@ -443,7 +444,7 @@ pub record SomeHeldList (l : Lists) : Type 0 where
 
 record RunsAt (l : Lists) (xs : List ℕ) : Type 0 where
   list : List FrameRange
-  runs : AllRuns l list
+  runs : Each (Run l) list
   first : firsts list ≡ xs
 
 bit-true : (b : Bool) → 0 < bit b → b ≡ true
@@ -462,7 +463,7 @@ module _ {l : Lists} (a : Lawful l) where
       go false e = firsts-none l rs (h .runs) f e
 
   -- and runs that start so are a held list
-  once-held : (rs : List FrameRange) → AllRuns l rs → ((f : ℕ) → occurs f (firsts rs) ≡ bit (begins l f)) → HeldList l rs
+  once-held : (rs : List FrameRange) → Each (Run l) rs → ((f : ℕ) → occurs f (firsts rs) ≡ bit (begins l f)) → HeldList l rs
   once-held rs u h = record { runs = u; once = λ f. go f (isHeld l f) refl }
     where
       go : (f : ℕ) (b : Bool) → isHeld l f ≡ b → times f rs ≡ bit b
@@ -471,7 +472,7 @@ module _ {l : Lists} (a : Lawful l) where
 
   -- a run for each of the frames
   runs-at : (xs : List ℕ) → ((f : ℕ) → 0 < occurs f xs → begins l f ≡ true) → RunsAt l xs
-  unfolding occurs firsts AllRuns
+  unfolding occurs firsts Each
   runs-at [] h = record { list = []; runs = tt; first = refl }
   runs-at (x ∷ xs) h =
       let m = begins-run a x (h x (omega (arith, ap bit (eq-eqb x x refl)))) in

@@ -117,7 +117,7 @@ pub table-again : {s : List Slot} → AllUsed s → tableSlots (length s) (table
 unfolding tableWords
 table-again {s} u = slots-of (replicate (1024 - 2 * length s) 0) u
 
-double : (n : ℕ) → 2 * suc n ≡ suc (suc (2 * n))
+pub double : (n : ℕ) → 2 * suc n ≡ suc (suc (2 * n))
 double n = omega arith
 
 pub words-short : (n : ℕ) (ws : List ℕ) → 2 * n ≤ length ws → slotWords (tableSlots n ws) ≡ take (2 * n) ws

@@ -62,7 +62,7 @@ kept p s (at i) = if p (rangeAt s i) then at i else nowhere
 module _ (p : FrameRange → Bool) (f : ℕ) (has : (r : FrameRange) → r .start ≤ r .end → p r ≡ true → (r .start ≤ f) × (f ≤ r .end)) where
   -- the place among r and the entries after it, where r does not pass
   kept-later : (r : FrameRange) (s : List Slot) (q : Place) (b : Bool) → p r ≡ false
-             → later (kept p s q) ≡ kept p (used r ∷ s) (orElse (later q) (if b then at 0 else nowhere))
+      → later (kept p s q) ≡ kept p (used r ∷ s) (orElse (later q) (if b then at 0 else nowhere))
   unfolding kept later orElse rangeAt
   kept-later r s nowhere true e = rw e
   kept-later r s nowhere false e = refl
@@ -83,6 +83,6 @@ module _ (p : FrameRange → Bool) (f : ℕ) (has : (r : FrameRange) → r .star
       highest t = lastWhere (λ c. leb (c .start) f) t
 
       go : (b : Bool) → p r ≡ b → firstWhere p s ≡ kept p s (highest s)
-         → (if b then at 0 else later (firstWhere p s)) ≡ kept p (used r ∷ s) (orElse (later (highest s)) (if leb (r .start) f then at 0 else nowhere))
+          → (if b then at 0 else later (firstWhere p s)) ≡ kept p (used r ∷ s) (orElse (later (highest s)) (if leb (r .start) f then at 0 else nowhere))
       go true e ih = rw (none-below f (r .end + 1) s (omega (arith, has r (a .1) e)) (spaced-rising (r .end + 1) s (a .2)), le-leb (r .start) f (has r (a .1) e .0), e)
       go false e ih = ap later ih ∙ kept-later r s (highest s) (leb (r .start) f) e

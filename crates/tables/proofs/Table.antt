@@ -8,14 +8,11 @@ use native.Mathlib.Omega.{arith}
 use lib.ListN.{length, take, drop, set, replicate, length-append, length-drop, length-replicate, take-append-drop, length-set, replicate-append-replicate}
 use lib.Seq.{paste, take-all, length-take-le, drop-drop, take-append-le, drop-append-le, take-at, drop-at, set-append-left}
 use Rattle.memory_structs.specs.Range.{range}
-use Rattle.model.proofs.Stored.{table-length, words-length, words-short}
+use Rattle.model.proofs.Stored.{table-length, double, words-length, words-short}
 use Rattle.model.proofs.Forms.{remove-run, replace-set}
 use Rattle.model.specs.Lists.{Slot, unused, used, remove, replaceAt}
 use Rattle.model.specs.Store.{tableSlots, slotWords, tableWords}
 use Rattle.tables.specs.Words.{IsTable, insertAt, pasted}
-
-double : (n : ℕ) → 2 * suc n ≡ suc (suc (2 * n))
-double n = omega arith
 
 pub words-append : (s t : List Slot) → slotWords (s ++ t) ≡ slotWords s ++ slotWords t
 unfolding slotWords

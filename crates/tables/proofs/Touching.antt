@@ -43,7 +43,7 @@ pair-bound p n ws i e = omega (arith, last-bound p (tableSlots n ws) i (sym e), 
 
 -- what passes has the frame f
 module _ (p : FrameRange → Bool) (f : ℕ) (has : (r : FrameRange) → r .start ≤ r .end → p r ≡ true → (r .start ≤ f) × (f ≤ r .end))
-         (n : ℕ) (ws : List ℕ) (t : tidy true (tableSlots n ws) ≡ true) where
+    (n : ℕ) (ws : List ℕ) (t : tidy true (tableSlots n ws) ≡ true) where
   highest : (q : Place) → q ≡ lastWhere (λ c. leb (c .start) f) (tableSlots n ws) → kept p (tableSlots n ws) q ≡ firstWhere p (tableSlots n ws)
   highest q e = ap (kept p (tableSlots n ws)) e ∙ sym (only-highest p f has 0 (tableSlots n ws) (tidy-spaced (tableSlots n ws) t))
 

@@ -35,8 +35,8 @@ loop-again c =
     let i = k .loop .i in
     let t = k .before .pre in
     let n : (c .if1 .n ≤ i + 1) × (usedFrom 0 l ≡ c .if1 .n + usedFrom (i + 1) l)
-          = ⊎-elim (λ w. let e : c .if1 .n ≡ k .loop .n + 1 = w .1 in omega (arith, one-used l i t (omega arith) (w .0 .taken)))
-                   (λ w. let e : c .if1 .n ≡ k .loop .n = w .1 in omega (arith, none-used l i t (omega arith) (w .0 .left))) (c .if1 .came) in
+    = ⊎-elim (λ w. let e : c .if1 .n ≡ k .loop .n + 1 = w .1 in omega (arith, one-used l i t (omega arith) (w .0 .taken)))
+    (λ w. let e : c .if1 .n ≡ k .loop .n = w .1 in omega (arith, none-used l i t (omega arith) (w .0 .left))) (c .if1 .came) in
     (omega arith, n .0, n .1)
 
 returns : tie.Need-returns Inv-loop μ-loop
