@@ -11,3 +11,5 @@ pub use range::FrameRange;
 pub use range::MaybeNumber;
 pub use range::MaybeRange;
 pub use range::YesNo;
+pub use range::highest;
+pub use range::lowest;

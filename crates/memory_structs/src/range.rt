@@ -218,13 +218,13 @@ pub(crate) fn above(r: FrameRange, frame: u64) -> FrameRange
     FrameRange::EMPTY
 }
 
-fn lowest(a: u64, b: u64) -> u64
+pub fn lowest(a: u64, b: u64) -> u64
     ensures { λ r. ⌜ r ≡ min a b ⌝ }
 {
     if a < b { a } else { b }
 }
 
-fn highest(a: u64, b: u64) -> u64
+pub fn highest(a: u64, b: u64) -> u64
     ensures { λ r. ⌜ r ≡ max a b ⌝ }
 {
     if a < b { b } else { a }

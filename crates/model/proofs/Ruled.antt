@@ -164,7 +164,7 @@ is-union s r h c = spans (suc (count s)) s (r .start) (r .end) (omega (arith, re
 
 -- the free chunks inside the regions
 
-inside-is : (s t : List Slot) → allOf (inUnion (entries t)) (entries s) ≡ true → ((f : ℕ) → tally f s ≤ 1) → (f : ℕ) → tally f s ≤ tally f t
+pub inside-is : (s t : List Slot) → allOf (inUnion (entries t)) (entries s) ≡ true → ((f : ℕ) → tally f s ≤ 1) → (f : ℕ) → tally f s ≤ tally f t
 unfolding allOf entries tally
 inside-is [] t e once f = omega arith
 inside-is (unused ∷ s) t e once f = inside-is s t e once f
@@ -175,14 +175,14 @@ inside-is (used r ∷ s) t e once f =
     (λ u w. omega (arith, inside-is s t (x .1) (λ g. omega (arith, once g)) f))
     (λ u w. omega (arith, inside-is s t (x .1) (λ g. omega (arith, once g)) f))
 
-is-inside : (s t : List Slot) → AllSound s → ((f : ℕ) → tally f s ≤ tally f t) → allOf (inUnion (entries t)) (entries s) ≡ true
+pub is-inside : (s t : List Slot) → AllSound s → ((f : ℕ) → tally f s ≤ tally f t) → allOf (inUnion (entries t)) (entries s) ≡ true
 unfolding allOf entries tally AllSound
 is-inside [] t a h = refl
 is-inside (unused ∷ s) t a h = is-inside s t a h
 is-inside (used r ∷ s) t a h =
     pair (is-union t r (a .0 .filled) (λ f p q. omega (arith, h f, cov-in r f p q))) (is-inside s t (a .1) (λ f. omega (arith, h f)))
 
-apart-lists : (s t : List Slot) → anyOf (λ r. anyOf (meets r) (entries t)) (entries s) ≡ false → ((f : ℕ) → tally f s ≤ 1) → ((f : ℕ) → tally f t ≤ 1) →
+pub apart-lists : (s t : List Slot) → anyOf (λ r. anyOf (meets r) (entries t)) (entries s) ≡ false → ((f : ℕ) → tally f s ≤ 1) → ((f : ℕ) → tally f t ≤ 1) →
     (f : ℕ) → tally f s + tally f t ≤ 1
 unfolding anyOf entries tally
 apart-lists [] t e p q f = omega (arith, q f)
@@ -194,7 +194,7 @@ apart-lists (used r ∷ s) t e p q f =
     (λ u w. omega (arith, apart-lists s t (x .1) (λ g. omega (arith, p g)) q f))
     (λ u w. omega (arith, apart-lists s t (x .1) (λ g. omega (arith, p g)) q f))
 
-lists-apart : (s t : List Slot) → ((f : ℕ) → tally f s + tally f t ≤ 1) → anyOf (λ r. anyOf (meets r) (entries t)) (entries s) ≡ false
+pub lists-apart : (s t : List Slot) → ((f : ℕ) → tally f s + tally f t ≤ 1) → anyOf (λ r. anyOf (meets r) (entries t)) (entries s) ≡ false
 unfolding anyOf entries tally
 lists-apart [] t h = refl
 lists-apart (unused ∷ s) t h = lists-apart s t h
@@ -220,7 +220,7 @@ tidy-is sorted s e =
       once = disjoint-is s (z .1);
     }
 
-is-tidy : (sorted : Bool) (s : List Slot) → Tidy sorted s → tidy sorted s ≡ true
+pub is-tidy : (sorted : Bool) (s : List Slot) → Tidy sorted s → tidy sorted s ≡ true
 unfolding tidy
 is-tidy sorted s a = pair (is-slotted sorted s (a .shape .slots)) (pair (le-leb _ _ (a .few)) (pair (is-sound s (a .shape .sound)) (is-disjoint s (a .once))))
 

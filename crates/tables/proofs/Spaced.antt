@@ -22,7 +22,7 @@ Spaced m [] = Unit {0}
 Spaced m (unused ∷ s) = ⊥
 Spaced m (used r ∷ s) = (m ≤ r .start) × (r .start ≤ r .end) × Spaced (r .end + 1) s
 
-spaced-rising : (m : ℕ) (s : List Slot) → Spaced m s → Rising m s
+pub spaced-rising : (m : ℕ) (s : List Slot) → Spaced m s → Rising m s
 unfolding Spaced Rising
 spaced-rising m [] a = tt
 spaced-rising m (unused ∷ s) a = absurd a
