@@ -7,11 +7,26 @@ ghost use Rattle.memory_structs.specs.Range as range;
 ghost use Rattle.model.specs.Lists.{entries, anyOf, allOf, inUnion};
 ghost use Rattle.model.specs.Rules.{tidy};
 ghost use Rattle.model.specs.Store.{tableSlots};
+ghost use Rattle.table_rules.specs.Table.{isTable};
 use memory_structs::FrameRange;
 use memory_structs::highest;
 
+// Whether the part is a table of so many pairs that keeps the rules for one list: "at most 512 entries, unused words 0".
+pub fn is_table(t: &[u64], len: usize) -> bool
+    requires { ⌜ length (now t) ≡ 1024 ⌝ }
+    ensures { λ r. ⌜ r ≡ isTable len (now (t .entry)) ⌝ }
+{
+    if 512 < len {
+        return false;
+    }
+    if tables::zero_tail(t, len) {
+        return is_tidy(t, len);
+    }
+    false
+}
+
 // Whether the pairs are ranges with frames, each above the one before it, up to the top.
-pub fn is_tidy(t: &[u64], len: usize) -> bool
+fn is_tidy(t: &[u64], len: usize) -> bool
     requires { ⌜ (len ≤ 512) × (2 * len ≤ length (now t)) ⌝ }
     ensures { λ r. ⌜ r ≡ tidy true (tableSlots len (now (t .entry))) ⌝ }
 {
