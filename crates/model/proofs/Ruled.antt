@@ -38,12 +38,12 @@ is-rising n [] a = refl
 is-rising n (unused ∷ s) a = absurd a
 is-rising n (used r ∷ s) a = pair (le-leb _ _ (a .0)) (is-rising (r .start) s (a .1))
 
-slotted-is : (sorted : Bool) (s : List Slot) → slotted sorted s ≡ true → Slots sorted s
+pub slotted-is : (sorted : Bool) (s : List Slot) → slotted sorted s ≡ true → Slots sorted s
 unfolding slotted
 slotted-is true s e = rising-is 0 s e
 slotted-is false s e = eqb-true _ _ e
 
-is-slotted : (sorted : Bool) (s : List Slot) → Slots sorted s → slotted sorted s ≡ true
+pub is-slotted : (sorted : Bool) (s : List Slot) → Slots sorted s → slotted sorted s ≡ true
 unfolding slotted
 is-slotted true s a = is-rising 0 s a
 is-slotted false s a = eq-eqb _ _ a
