@@ -1,2 +1,4 @@
 pub mod One
+pub mod Again
+pub mod Whole
 pub mod Meeting

@@ -10,9 +10,19 @@ ghost use Rattle.model.specs.Rules.{slotted, tidy};
 ghost use Rattle.model.specs.Requests.{largeEnough};
 ghost use Rattle.tables.specs.Words.{placeOf};
 ghost use Rattle.lists.specs.One.{IsList, slotsIn, Stored};
+
+mod record;
+
 use early::Wanted;
 use memory_structs::FrameRange;
 use model::EarlyList;
+pub use record::fresh;
+pub use record::general_free;
+pub use record::general_regions;
+pub use record::record_of;
+pub use record::reserved_free;
+pub use record::reserved_regions;
+pub use record::unused_slots;
 use tables::Found;
 
 // In sorted form the list is the first `len` pairs of the table that is lent beside it, and every slot is unused.

@@ -126,7 +126,7 @@ rising-from [] h a = tt
 rising-from (unused ∷ s) h a = a
 rising-from (used r ∷ s) h a = (omega (arith, a .0), a .1)
 
-remove-rising : (i : ℕ) (s : List Slot) (n : ℕ) → Rising n s → Rising n (removeOne true i s)
+pub remove-rising : (i : ℕ) (s : List Slot) (n : ℕ) → Rising n s → Rising n (removeOne true i s)
 unfolding removeOne Rising
 remove-rising i [] n a = tt
 remove-rising zero (unused ∷ s) n a = absurd a

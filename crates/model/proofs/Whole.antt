@@ -49,7 +49,7 @@ storables l a = record {
 
 -- ---- parts of the workspace
 
-length-part : (k : ℕ) (ws : List ℕ) → k + 1024 ≤ length ws → length (part k ws) ≡ 1024
+pub length-part : (k : ℕ) (ws : List ℕ) → k + 1024 ≤ length ws → length (part k ws) ≡ 1024
 length-part k ws h = length-take-le 1024 (drop k ws) (omega (arith, length-drop k ws))
 
 part-past : (k : ℕ) (p w : List ℕ) → length p ≡ 1024 → drop (1024 + k) (p ++ w) ≡ drop k w
