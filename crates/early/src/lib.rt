@@ -1,7 +1,7 @@
 // Early lists: 32 slots each, in three arrays; a slot that is not used holds the empty range. Document 01's early form (001, the array).
 ghost use mathlib.Core.Path.{_≡_};
 ghost use mathlib.Core.Bool.{true, false};
-ghost use Prim.Native.Nat.{_+_, _-_, _≤_, _<_};
+ghost use Prim.Native.Nat.{_≤_, _<_};
 ghost use lib.ListN.{length, drop, set};
 ghost use Rattle.memory_structs.specs.Range as range;
 ghost use Rattle.memory_structs.specs.Range.{range, top, size, inside, meets};
@@ -163,7 +163,7 @@ pub fn covers(l: EarlyList, start: u64, end: u64) -> bool
     requires { ⌜ start ≤ end ⌝ }
     ensures { λ r. ⌜ r ≡ inUnion (entries (slotsOf l)) (range start end) ⌝ }
 {
-    // No frame is in two slots, so as many frames of the range as there are, are all of them.
+    // No frame is in two slots: where they have as many frames of the range as there are, they have each.
     end - start < frames_in(l, start, end)
 }
 
