@@ -2,13 +2,13 @@
 use mathlib.Core.Path.{_≡_, refl, sym, ap, _∙_}
 use mathlib.Core.Bool.{Bool, true, false}
 use mathlib.Core.List.{List, [], _∷_}
-use Prim.Native.Nat.{ℕ, zero, suc, _+_, _≤_, _<_}
+use Prim.Native.Nat.{ℕ, zero, suc, _≤_, _<_}
 use native.Mathlib.Omega.{arith}
 use lib.ListN.{length}
 use lib.Dec.{ltb}
 use Rattle.memory_structs.proofs.Bools.{if-cases}
 use Rattle.memory_structs.specs.declared.range.FrameRange.{FrameRange}
-use Rattle.model.specs.Lists.{Slot, unused, used, entries, bound, insert, insertSorted, remove, removeOne}
+use Rattle.model.specs.Lists.{Slot, entries, bound, insert, insertSorted, remove, removeOne}
 use Rattle.model.specs.Rules.{slotted}
 use Rattle.model.specs.Store.{wordsIn}
 use Rattle.model.specs.Store as store

@@ -122,7 +122,7 @@ leb-same a b c d f g = go (leb a b) (leb c d) refl refl
     go true false e h = absurd (omega (arith, f (leb-true a b e), leb-false c d h))
     go false true e h = absurd (omega (arith, g (leb-true c d h), leb-false a b e))
 
-pair-drop : (i : ℕ) (ws : List ℕ) → pairAt (drop 2 ws) i ≡ pairAt ws (suc i)
+pub pair-drop : (i : ℕ) (ws : List ℕ) → pairAt (drop 2 ws) i ≡ pairAt ws (suc i)
 pair-drop i ws =
     let e : 2 + 2 * i ≡ 2 * suc i = omega arith in
     let f : 2 + (2 * i + 1) ≡ 2 * suc i + 1 = omega arith in
