@@ -1,4 +1,5 @@
 -- One early list, as its functions need it.
+use Prim.Native.Nat.{ℕ, _+_}
 use mathlib.Core.Path.{_≡_}
 use mathlib.Core.Bool.{Bool}
 use mathlib.Core.List.{List, [], _∷_}
@@ -7,10 +8,10 @@ use lib.ListN.{length}
 use Rattle.model.specs.Lists.{Slot, unused, used, Place, nowhere, at, later}
 use Rattle.model.specs.Store.{slotsOf, earlyOf}
 use Rattle.model.specs.declared.EarlyList.{EarlyList}
-use Rattle.memory_structs.specs.Range.{size, inside, meets}
+use Rattle.memory_structs.specs.Range.{size, inside, common}
 use Rattle.memory_structs.specs.declared.range.FrameRange.{FrameRange}
 use Rattle.early.specs.declared.Wanted.{Wanted}
-use Rattle.early.specs.declared.Wanted.the-variants.{Large, Holding, Meeting}
+use Rattle.early.specs.declared.Wanted.the-variants.{Large, Holding}
 
 -- 32 slots, and nothing that the slots do not show
 pub record IsEarly (l : EarlyList) : Type 0 where
@@ -27,4 +28,8 @@ firstUnused (used r ∷ s) = later (firstUnused s)
 unfoldable pub wants : Wanted → FrameRange → Bool
 wants (Large n) c = leb n (size c)
 wants (Holding r) c = inside c r
-wants (Meeting r) c = meets r c
+
+-- how many frames of a range the ranges have, added up over the ranges
+unfoldable pub framesIn : FrameRange → List FrameRange → ℕ
+framesIn r [] = 0
+framesIn r (x ∷ xs) = size (common r x) + framesIn r xs

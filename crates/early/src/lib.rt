@@ -1,13 +1,16 @@
 // Early lists: 32 slots each, in three arrays; a slot that is not used holds the empty range. Document 01's early form (001, the array).
 ghost use mathlib.Core.Path.{_≡_};
 ghost use mathlib.Core.Bool.{true, false};
-ghost use Prim.Native.Nat.{_+_, _-_, _<_};
-ghost use lib.ListN.{length, set};
-ghost use Rattle.memory_structs.specs.Range.{range, inside, meets};
-ghost use Rattle.model.specs.Lists.{used, entries, firstWhere, insertEarly, remove};
+ghost use Prim.Native.Nat.{_+_, _-_, _≤_, _<_};
+ghost use lib.ListN.{length, drop, set};
+ghost use Rattle.memory_structs.specs.Range as range;
+ghost use Rattle.memory_structs.specs.Range.{range, top, size, inside, meets};
+ghost use Rattle.model.specs.Lists as model;
+ghost use Rattle.model.specs.Lists.{used, entries, anyOf, firstWhere, insertEarly, remove, inUnion};
+ghost use Rattle.model.specs.Rules.{tidy};
 ghost use Rattle.tables.specs.Words.{placeOf};
 ghost use Rattle.model.specs.Store.{slotsOf, earlyOf};
-ghost use Rattle.early.specs.Slots.{IsEarly, firstUnused, wants};
+ghost use Rattle.early.specs.Slots.{IsEarly, firstUnused, framesIn, wants};
 use memory_structs::FrameRange;
 use model::EarlyList;
 use tables::Found;
@@ -84,8 +87,6 @@ pub enum Wanted {
     Large(u64),
     // A chunk that has every frame of the range.
     Holding(FrameRange),
-    // An entry that has a frame of the range.
-    Meeting(FrameRange),
 }
 
 // The first used slot whose range is wanted.
@@ -95,10 +96,8 @@ pub fn first_wanted(l: EarlyList, wanted: Wanted) -> Found
 {
     let mut i = 0;
     while i < 32 {
-        if l.used[i] {
-            if is_wanted(wanted, l.starts[i], l.ends[i]) {
-                return Found::At(i);
-            }
+        if l.used[i] && is_wanted(wanted, l.starts[i], l.ends[i]) {
+            return Found::At(i);
         }
         i += 1;
     }
@@ -112,7 +111,6 @@ fn is_wanted(wanted: Wanted, start: u64, end: u64) -> bool
     match wanted {
         Wanted::Large(n) => tables::is_large(start, end, n),
         Wanted::Holding(r) => is_inside(start, end, r.start, r.end),
-        Wanted::Meeting(r) => meet(r.start, r.end, start, end),
     }
 }
 
@@ -126,11 +124,82 @@ fn is_inside(outer_start: u64, outer_end: u64, start: u64, end: u64) -> bool
     end <= outer_end
 }
 
+// Whether a used slot from `from` on has a frame of the range.
+pub fn meets_from(l: EarlyList, from: usize, start: u64, end: u64) -> bool
+    ensures { λ r. ⌜ r ≡ anyOf (meets (range start end)) (entries (drop from (slotsOf l))) ⌝ }
+{
+    let mut i = from;
+    while i < 32 {
+        if l.used[i] && meet(start, end, l.starts[i], l.ends[i]) {
+            return true;
+        }
+        i += 1;
+    }
+    false
+}
+
+// How many frames of the range the used slots have, added up over the slots.
+pub fn frames_in(l: EarlyList, start: u64, end: u64) -> u64
+    requires { ⌜ tidy false (slotsOf l) ≡ true ⌝ }
+    ensures { λ r. ⌜ r ≡ framesIn (range start end) (entries (slotsOf l)) ⌝ }
+{
+    let mut total = 0;
+    let mut i = 0;
+    while i < 32 {
+        let frames = if l.used[i] {
+            common_frames(start, end, l.starts[i], l.ends[i])
+        } else {
+            0
+        };
+        total += frames;
+        i += 1;
+    }
+    total
+}
+
+// Whether the range lies in the union of the used slots.
+pub fn covers(l: EarlyList, start: u64, end: u64) -> bool
+    requires { ⌜ tidy false (slotsOf l) ≡ true ⌝ }
+    requires { ⌜ start ≤ end ⌝ }
+    ensures { λ r. ⌜ r ≡ inUnion (entries (slotsOf l)) (range start end) ⌝ }
+{
+    // No frame is in two slots, so as many frames of the range as there are, are all of them.
+    end - start < frames_in(l, start, end)
+}
+
+// How many frames the used slots have; none is above the top.
+pub fn sum(l: EarlyList) -> u64
+    requires { ⌜ tidy false (slotsOf l) ≡ true ⌝ }
+    ensures { λ r. ⌜ r ≡ model.sum (entries (slotsOf l)) ⌝ }
+{
+    frames_in(l, 0, FrameRange::TOP)
+}
+
 // Whether two ranges have a frame in common.
 fn meet(a_start: u64, a_end: u64, b_start: u64, b_end: u64) -> bool
     ensures { λ r. ⌜ r ≡ meets (range «a_start» «a_end») (range «b_start» «b_end») ⌝ }
 {
+    let both = common(a_start, a_end, b_start, b_end);
+    both.start <= both.end
+}
+
+// How many frames two ranges have in common.
+fn common_frames(a_start: u64, a_end: u64, b_start: u64, b_end: u64) -> u64
+    requires { ⌜ «b_end» ≤ top ⌝ }
+    ensures { λ r. ⌜ r ≡ size (range.common (range «a_start» «a_end») (range «b_start» «b_end»)) ⌝ }
+{
+    let both = common(a_start, a_end, b_start, b_end);
+    if both.end < both.start {
+        return 0;
+    }
+    both.end - both.start + 1
+}
+
+// The frames that two ranges have in common: from the higher start to the lower end.
+fn common(a_start: u64, a_end: u64, b_start: u64, b_end: u64) -> FrameRange
+    ensures { λ r. ⌜ r ≡ range.common (range «a_start» «a_end») (range «b_start» «b_end») ⌝ }
+{
     let start = if a_start < b_start { b_start } else { a_start };
     let end = if a_end < b_end { a_end } else { b_end };
-    start <= end
+    FrameRange { start, end }
 }

@@ -1,4 +1,4 @@
--- Whether an entry meets a range: by the highest entry that starts at or below its end, or by the first that is found.
+-- Whether an entry meets a range: by the highest entry that starts at or below its end, or by every slot.
 use mathlib.Core.Path.{_≡_, refl, sym, ap, _∙_}
 use mathlib.Core.Bool.{Bool, true, false, _||_, or-false}
 use mathlib.Core.List.{List, [], _∷_}
@@ -10,7 +10,7 @@ use borrow.Author.Tests.{le-leb, lt-leb, leb-true, leb-false}
 use Rattle.memory_structs.specs.Choice.{if_then_else_}
 use Rattle.memory_structs.specs.Range.{meets}
 use Rattle.memory_structs.specs.declared.range.FrameRange.{FrameRange}
-use Rattle.model.specs.Lists.{Slot, unused, used, entries, anyOf, Place, nowhere, at, later, orElse, firstWhere, lastWhere, rangeAt}
+use Rattle.model.specs.Lists.{Slot, unused, used, entries, anyOf, Place, nowhere, at, later, orElse, lastWhere, rangeAt}
 use Rattle.tables.proofs.Search.{leb-same}
 use Rattle.model.specs.Rules.{tidy}
 use Rattle.model.specs.Store.{slotsOf, tableSlots}
@@ -19,26 +19,6 @@ use Rattle.tables.proofs.Touching.{last-bound}
 use Rattle.lists.specs.declared.OneList.{OneList}
 use Rattle.lists.specs.One.{slotsIn}
 use Rattle.lists.proofs.One.{at-sorted, at-early}
-
--- a search that ends somewhere, or nowhere
-abbrev pub somewhere : Place → Bool
-somewhere nowhere = false
-somewhere (at i) = true
-
-later-somewhere : (q : Place) → somewhere (later q) ≡ somewhere q
-unfolding later
-later-somewhere nowhere = refl
-later-somewhere (at i) = refl
-
-pub any-first : (p : FrameRange → Bool) (s : List Slot) → somewhere (firstWhere p s) ≡ anyOf p (entries s)
-unfolding firstWhere anyOf entries
-any-first p [] = refl
-any-first p (unused ∷ s) = later-somewhere (firstWhere p s) ∙ any-first p s
-any-first p (used r ∷ s) = go (p r) (any-first p s)
-  where
-    go : (b : Bool) → somewhere (firstWhere p s) ≡ anyOf p (entries s) → somewhere (if b then at 0 else later (firstWhere p s)) ≡ (b || anyOf p (entries s))
-    go true e = refl
-    go false e = later-somewhere (firstWhere p s) ∙ e
 
 -- the entry at a place ends at m or above
 unfoldable pub reaches : ℕ → List Slot → Place → Bool
@@ -88,6 +68,5 @@ met-sorted r l ws h e t q found =
     ∙ sym (highest-meets r h 0 (tableSlots (l .len) ws) (tidy-spaced (tableSlots (l .len) ws) (sym (at-sorted tidy l ws e) ∙ t)))
     ∙ sym (at-sorted (λ b s. anyOf (meets r) (entries s)) l ws e)
 
-pub met-early : (r : FrameRange) (l : OneList) (ws : List ℕ) → l .sorted ≡ false
-    → (q : Place) → q ≡ firstWhere (meets r) (slotsOf (l .early)) → somewhere q ≡ anyOf (meets r) (entries (slotsIn l ws))
-met-early r l ws e q found = ap somewhere found ∙ any-first (meets r) (slotsOf (l .early)) ∙ sym (at-early (λ b s. anyOf (meets r) (entries s)) l ws e)
+pub met-early : (r : FrameRange) (l : OneList) (ws : List ℕ) → l .sorted ≡ false → anyOf (meets r) (entries (slotsOf (l .early))) ≡ anyOf (meets r) (entries (slotsIn l ws))
+met-early r l ws e = sym (at-early (λ b s. anyOf (meets r) (entries s)) l ws e)

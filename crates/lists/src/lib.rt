@@ -81,10 +81,7 @@ pub fn meets(l: OneList, t: &[u64], start: u64, end: u64) -> bool
             Found::Nowhere => false,
         };
     }
-    match early::first_wanted(l.early, Wanted::Meeting(FrameRange::new(start, end))) {
-        Found::At(_) => true,
-        Found::Nowhere => false,
-    }
+    early::meets_from(l.early, 0, start, end)
 }
 
 // The k slots from i on are taken out; in early form the one slot is emptied.

@@ -1,21 +1,16 @@
--- `early::meet`: the higher start is no higher than the lower end.
-use mathlib.Core.Path.{_≡_, _∙_}
-use mathlib.Core.Logic.{⊎-elim}
-use native.Mathlib.Omega.{arith}
-use Prim.Native.Nat.{min, max}
+-- `early::meet`: what the ranges have in common is not empty.
+use mathlib.Core.Path.{ap}
+use lib.Dec.{leb}
+use borrow.Author.Needs.{needs}
+use Rattle.memory_structs.specs.declared.range.FrameRange.{FrameRange}
 use Rattle.early.proofs.meet.Statement.{statement}
 use Rattle.early.proofs.meet.Tie as tie
 
+common-requires : tie.Need-common-requires
+common-requires c κs = search needs
+
 returns : tie.Need-returns
-returns c =
-    let a = c .before .before .args in
-    let s : c .before .if1 .start ≡ max (a .a-start) (a .b-start)
-    = ⊎-elim (λ w. w .1 ∙ (let m : a .b-start ≡ max (a .a-start) (a .b-start) = omega (arith, w .0 .taken) in m))
-    (λ w. w .1 ∙ (let m : a .a-start ≡ max (a .a-start) (a .b-start) = omega (arith, w .0 .left) in m)) (c .before .if1 .came) in
-    let e : c .if2 .end ≡ min (a .a-end) (a .b-end)
-    = ⊎-elim (λ w. w .1 ∙ (let m : a .a-end ≡ min (a .a-end) (a .b-end) = omega (arith, w .0 .taken) in m))
-    (λ w. w .1 ∙ (let m : a .b-end ≡ min (a .a-end) (a .b-end) = omega (arith, w .0 .left) in m)) (c .if2 .came) in
-    rw (s, e)
+returns c = ap (λ (r : FrameRange). leb (r .start) (r .end)) (c .before .common .ensures)
 
 pub meet-spec : {M : Type 1} → statement M
-meet-spec = tie.close (tie.spec returns)
+meet-spec = tie.close (tie.spec common-requires returns)

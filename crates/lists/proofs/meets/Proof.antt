@@ -1,20 +1,19 @@
--- `lists::meets`: by the highest entry at or below the end, or by the first that meets.
+-- `lists::meets`: by the highest entry at or below the end, or by every slot.
 use native.Mathlib.Omega.{arith}
 use mathlib.Core.Path.{_≡_, sym, ap, _∙_}
 use Prim.Native.Nat.{_<_, _≤_}
 use lib.ListN.{length}
 use lib.Dec.{leb}
 use borrow.Author.Needs.{needs}
-use Rattle.memory_structs.specs.Range.{range, meets}
+use Rattle.memory_structs.specs.Range.{range}
 use Rattle.memory_structs.specs.declared.range.FrameRange.{FrameRange}
-use Rattle.model.specs.Lists.{at, nowhere, firstWhere, lastWhere}
+use Rattle.model.specs.Lists.{at, nowhere, lastWhere}
 use Rattle.model.specs.Rules.{tidy}
-use Rattle.model.specs.Store.{slotsOf, tableSlots}
+use Rattle.model.specs.Store.{tableSlots}
 use Rattle.tables.specs.Words.{placeOf}
 use Rattle.tables.proofs.Search.{range-at}
 use Rattle.tables.proofs.Touching.{tidy-rising, pair-bound}
-use Rattle.early.specs.Slots.{wants}
-use Rattle.lists.proofs.One.{as-table, as-early, at-sorted}
+use Rattle.lists.proofs.One.{as-table, at-sorted}
 use Rattle.lists.proofs.Meeting.{reaches, met-sorted, met-early}
 use Rattle.lists.proofs.meets.Statement.{statement}
 use Rattle.lists.proofs.meets.Tie as tie
@@ -72,38 +71,13 @@ returns-2 c =
     let a = s .args in
     met-sorted (range (a .start) (a .end)) (a .l) (a .t .now) (s .pre .1 .1) (k .before .if1 .taken) (s .pre .1 .0) nowhere (sym (ap placeOf (c .enum-told .given .1)) ∙ k .highest-at-or-below .ensures)
 
-new-requires : tie.Need-new-requires
-new-requires c κs = search needs
-
-first-wanted-requires : tie.Need-first-wanted-requires
-first-wanted-requires c κs = let s = c .before .before .before in as-early (s .args .l) (s .args .t .now) (s .pre .0) (c .before .if1 .left)
-
-enum-told-2 : tie.Need-enum-told-2
-enum-told-2 c = search needs
-
-enum-told-3 : tie.Need-enum-told-3
-enum-told-3 c = search needs
-
--- what the search of the slots answers
-first : (c : tie.After-first-wanted) → placeOf (c .first-wanted .result) ≡ firstWhere (meets (range (c .before .before .before .before .args .start) (c .before .before .before .before .args .end))) (slotsOf (c .before .before .before .before .args .l .early))
-unfolding wants
-first c =
-    let a = c .before .before .before .before .args in
-    c .first-wanted .ensures ∙ ap (λ (r : FrameRange). firstWhere (meets r) (slotsOf (a .l .early))) (c .before .new .ensures)
+meets-from-requires : tie.Need-meets-from-requires
+meets-from-requires c κs = search needs
 
 returns-3 : tie.Need-returns-3
 returns-3 c =
-    let k = c .before .before in
-    let s = k .before .before .before .before in
-    let a = s .args in
-    met-early (range (a .start) (a .end)) (a .l) (a .t .now) (k .before .before .if1 .left) (at _) (sym (ap placeOf (c .enum-told2 .given .1)) ∙ first k)
-
-returns-4 : tie.Need-returns-4
-returns-4 c =
-    let k = c .before .before in
-    let s = k .before .before .before .before in
-    let a = s .args in
-    met-early (range (a .start) (a .end)) (a .l) (a .t .now) (k .before .before .if1 .left) nowhere (sym (ap placeOf (c .enum-told3 .given .1)) ∙ first k)
+    let a = c .before .before .before .args in
+    c .meets-from .ensures ∙ met-early (range (a .start) (a .end)) (a .l) (a .t .now) (c .before .if1 .left)
 
 pub meets-spec : {M : Type 1} → statement M
 meets-spec =
@@ -118,9 +92,5 @@ meets-spec =
     enum-told
     returns
     returns-2
-    new-requires
-    first-wanted-requires
-    enum-told-2
-    enum-told-3
-    returns-3
-    returns-4)
+    meets-from-requires
+    returns-3)
