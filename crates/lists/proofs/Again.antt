@@ -2,13 +2,13 @@
 use mathlib.Core.Path.{_≡_, refl, sym, ap, _∙_}
 use mathlib.Core.Bool.{Bool, true, false}
 use mathlib.Core.List.{List, [], _∷_}
-use Prim.Native.Nat.{ℕ, zero, suc, _+_, _≤_, _<_}
+use Prim.Native.Nat.{ℕ, zero, suc, _≤_, _<_}
 use native.Mathlib.Omega.{arith}
 use lib.ListN.{length}
 use lib.Dec.{ltb}
 use Rattle.memory_structs.proofs.Bools.{if-cases}
 use Rattle.memory_structs.specs.declared.range.FrameRange.{FrameRange}
-use Rattle.model.specs.Lists.{Slot, unused, used, entries, bound, insert, insertSorted, remove, removeOne}
+use Rattle.model.specs.Lists.{Slot, entries, bound, insert, insertSorted, remove, removeOne}
 use Rattle.model.specs.Rules.{slotted}
 use Rattle.model.specs.Store.{wordsIn}
 use Rattle.model.specs.Store as store
@@ -16,9 +16,10 @@ use Rattle.model.proofs.Cover.{early-length, remove-length}
 use Rattle.model.proofs.Lawful.{Slots, sorted-rising, remove-rising}
 use Rattle.model.proofs.Ruled.{slotted-is, is-slotted}
 use Rattle.model.proofs.Stored.{AllUsed, none, one, Storable, early, sorted, part-length, slots-again, stored-test, test-kept}
+use Rattle.model.proofs.Whole.{used-count}
 use Rattle.lists.specs.declared.OneList.{OneList}
 use Rattle.lists.specs.One.{IsList, slotsIn, oneOf, Stored}
-use Rattle.lists.proofs.One.{entries-used, length-inserted}
+use Rattle.lists.proofs.One.{length-inserted}
 
 -- a list stores its slots, and nothing else
 module _ (l : OneList) (ws : List ℕ) (t : IsList l ws) where
@@ -108,7 +109,7 @@ one-inserted r (one {r = x} u) = if-cases AllUsed (ltb (r .start) (x .start)) (�
 pub inserted-storable : {b : Bool} (r : FrameRange) {s : List Slot} → Storable b s → length (entries s) < bound b → Storable b (insert b r s)
 unfolding insert bound
 inserted-storable r {s = s} (early h) few = early (early-length r s ∙ h)
-inserted-storable r {s = s} (sorted u h) few = sorted (one-inserted r u) (omega (arith, entries-used u, length-inserted r s))
+inserted-storable r {s = s} (sorted u h) few = sorted (one-inserted r u) (omega (arith, used-count u, length-inserted r s))
 
 inserted-slots : (b : Bool) (r : FrameRange) (s : List Slot) → Slots b s → Slots b (insert b r s)
 unfolding insert

@@ -1,15 +1,16 @@
 -- The laws of one list in its two forms.
-use mathlib.Core.Path.{_≡_, refl, sym, ap, _∙_, subst}
+use mathlib.Core.Path.{_≡_, sym, ap, _∙_, subst}
 use mathlib.Core.Bool.{Bool, true, false}
 use mathlib.Core.List.{List, _∷_}
-use Prim.Native.Nat.{ℕ, suc, _+_, _-_, _≤_, _<_}
+use Prim.Native.Nat.{ℕ, _+_, _-_, _≤_, _<_}
 use native.Mathlib.Omega.{arith}
 use lib.ListN.{length, take, drop, replicate, length-append, length-drop}
 use lib.Seq.{length-take-le}
 use Rattle.model.specs.Lists.{Slot, unused, used, entries, bound, remove, insertSorted}
 use Rattle.model.specs.Store.{slotsOf, earlyOf, tableSlots, tableWords, earlyIn, lengthIn, wordsIn}
 use Rattle.model.specs.Store as store
-use Rattle.model.proofs.Stored.{AllUsed, none, one, Storable, early, sorted, Kept, test-kept, table-length, table-used}
+use Rattle.model.proofs.Stored.{Storable, early, sorted, Kept, test-kept, table-length, table-used}
+use Rattle.model.proofs.Whole.{used-count}
 use Rattle.model.specs.declared.EarlyList.{EarlyList}
 use Rattle.model.proofs.Forms.{remove-run}
 use Rattle.memory_structs.specs.declared.range.FrameRange.{FrameRange}
@@ -35,11 +36,6 @@ short (sorted u h) = h
 full : {s : List Slot} → Storable false s → length s ≡ 32
 full (early h) = h
 
-pub entries-used : {s : List Slot} → AllUsed s → length (entries s) ≡ length s
-unfolding entries
-entries-used none = refl
-entries-used (one u) = ap suc (entries-used u)
-
 module _ (l : OneList) (ws : List ℕ) (t : IsList l ws) where
   kept : (b : Bool) → l .sorted ≡ b → Kept b (l .early) (l .len) ws
   kept b e = subst (λ (x : Bool). Kept x (l .early) (l .len) ws) e (test-kept (l .sorted) (l .early) (l .len) ws (t .size) (t .stored))
@@ -58,7 +54,7 @@ module _ (l : OneList) (ws : List ℕ) (t : IsList l ws) where
   sorted-length e = at-sorted (λ b s. length s) l ws e ∙ table-length (l .len) ws
 
   pub sorted-count : l .sorted ≡ true → length (entries (slotsIn l ws)) ≡ l .len
-  sorted-count e = at-sorted (λ b s. length (entries s)) l ws e ∙ entries-used (table-used (l .len) ws) ∙ table-length (l .len) ws
+  sorted-count e = at-sorted (λ b s. length (entries s)) l ws e ∙ sym (used-count (table-used (l .len) ws)) ∙ table-length (l .len) ws
 
   pub early-length : l .sorted ≡ false → length (slotsIn l ws) ≡ 32
   early-length e = at-early (λ b s. length s) l ws e ∙ as-early e .size

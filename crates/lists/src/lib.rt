@@ -5,7 +5,7 @@ ghost use Prim.Native.Nat.{_+_, _≤_, _<_};
 ghost use lib.ListN.{length};
 ghost use Rattle.memory_structs.specs.Range as range;
 ghost use Rattle.model.specs.Lists as model;
-ghost use Rattle.model.specs.Lists.{entries, rangeAt, anyOf, bound};
+ghost use Rattle.model.specs.Lists.{entries, rangeAt, anyOf, bound, inUnion};
 ghost use Rattle.model.specs.Rules.{slotted, tidy};
 ghost use Rattle.model.specs.Requests.{largeEnough};
 ghost use Rattle.tables.specs.Words.{placeOf};
@@ -82,6 +82,31 @@ pub fn meets(l: OneList, t: &[u64], start: u64, end: u64) -> bool
         };
     }
     early::meets_from(l.early, 0, start, end)
+}
+
+// Whether every frame of the range is in an entry; entries may touch.
+pub fn covers(l: OneList, t: &[u64], start: u64, end: u64) -> bool
+    requires { ⌜ IsList l (now t) ⌝ }
+    requires { ⌜ tidy (l .sorted) (slotsIn l (now t)) ≡ true ⌝ }
+    requires { ⌜ start ≤ end ⌝ }
+    ensures { λ r. ⌜ r ≡ inUnion (entries (slotsIn l (now (t .entry)))) (range.range start end) ⌝ }
+{
+    if l.sorted {
+        return tables::covers(t, l.len, start, end);
+    }
+    early::covers(l.early, start, end)
+}
+
+// The frames of all entries.
+pub fn sum(l: OneList, t: &[u64]) -> u64
+    requires { ⌜ IsList l (now t) ⌝ }
+    requires { ⌜ tidy (l .sorted) (slotsIn l (now t)) ≡ true ⌝ }
+    ensures { λ r. ⌜ r ≡ model.sum (entries (slotsIn l (now (t .entry)))) ⌝ }
+{
+    if l.sorted {
+        return tables::sum(t, l.len);
+    }
+    early::sum(l.early)
 }
 
 // The k slots from i on are taken out; in early form the one slot is emptied.

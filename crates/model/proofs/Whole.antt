@@ -23,7 +23,7 @@ rising-used n [] h = none
 rising-used n (unused ∷ s) h = absurd h
 rising-used n (used r ∷ s) h = one (rising-used (r .start) s (h .1))
 
-used-count : {s : List Slot} → AllUsed s → length s ≡ count s
+pub used-count : {s : List Slot} → AllUsed s → length s ≡ count s
 unfolding entries
 used-count none = refl
 used-count (one u) = ap suc (used-count u)

@@ -5,3 +5,5 @@ pub mod Halving
 pub mod Zeros
 pub mod Spaced
 pub mod Touching
+pub mod Sums
+pub mod Union

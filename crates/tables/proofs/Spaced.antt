@@ -1,5 +1,5 @@
 -- A tidy table has each range above the one before. So at most one pair has a frame, and it is the highest that starts at or below it.
-use Prim.Native.Nat.{ℕ, suc, _+_, _-_, _≤_}
+use Prim.Native.Nat.{ℕ, suc, _+_, _-_, _≤_, _<_}
 use native.Mathlib.Omega.{arith}
 use mathlib.Core.Path.{_≡_, refl, ap, _∙_}
 use mathlib.Core.Bool.{Bool, true, false}
@@ -8,7 +8,7 @@ use lib.Dec.{leb}
 use borrow.Author.Tests.{le-leb, leb-true, leb-false}
 use Rattle.memory_structs.specs.Choice.{if_then_else_}
 use Rattle.memory_structs.specs.declared.range.FrameRange.{FrameRange}
-use Rattle.memory_structs.proofs.Cover.{cov-in}
+use Rattle.memory_structs.proofs.Cover.{cov-in, cov-below}
 use Rattle.model.specs.Lists.{Slot, unused, used, Place, nowhere, at, later, orElse, firstWhere, lastWhere, rangeAt}
 use Rattle.model.specs.Rules.{tidy}
 use Rattle.model.proofs.Cover.{tally}
@@ -53,6 +53,14 @@ spaced m (used r ∷ s) a b once =
 
 pub tidy-spaced : (s : List Slot) → tidy true s ≡ true → Spaced 0 s
 tidy-spaced s e = let t = tidy-is true s e in spaced 0 s (t .shape .slots) (t .shape .sound) (t .once)
+
+-- a frame below what is spaced from m on is in none of it
+pub none-under : (f m : ℕ) (s : List Slot) → Spaced m s → f < m → tally f s ≡ 0
+unfolding Spaced tally
+none-under f m [] a h = refl
+none-under f m (unused ∷ s) a h = absurd a
+none-under f m (used r ∷ s) a h =
+    omega (arith, cov-below r f (omega (arith, a .0)), none-under f (r .end + 1) s (a .2) (omega (arith, a .0, a .1)))
 
 -- the place, where the range at it passes
 unfoldable pub kept : (FrameRange → Bool) → List Slot → Place → Place
