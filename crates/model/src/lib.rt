@@ -31,6 +31,7 @@ pub struct ByteArea {
 }
 
 // A list in early form: 32 slots. One that is not used holds `FrameRange::EMPTY`.
+#[repr(C)]
 pub struct EarlyList {
     pub starts: [u64; 32],
     pub ends: [u64; 32],
@@ -38,6 +39,7 @@ pub struct EarlyList {
 }
 
 // The allocator's record. In sorted form the lists are tables of the lent workspace, and only their lengths stand here.
+#[repr(C)]
 pub struct FrameAllocator {
     pub sorted: bool,
     pub general_free: EarlyList,

@@ -1,0 +1,12 @@
+// The test of a record and its workspace, which every call of the allocator makes first.
+ghost use mathlib.Core.Path.{_≡_};
+ghost use Rattle.rules.specs.Check.{checked};
+use model::FrameAllocator;
+
+// 0 where the record and its workspace keep the rules, 3 or 11 where they do not.
+#[no_mangle]
+pub extern "C" fn likhmout_check(allocator: FrameAllocator, words: &[u64]) -> u64
+    ensures { λ r. ⌜ r ≡ checked allocator (now (words .entry)) ⌝ }
+{
+    rules::check(allocator, words)
+}

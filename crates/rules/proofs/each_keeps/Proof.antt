@@ -1,0 +1,100 @@
+-- `each_keeps`: the four lists, one after the other.
+use mathlib.Core.Path.{sym, _∙_}
+use borrow.Author.Tests.{not-true, not-false}
+use borrow.Author.Needs.{needs}
+use Rattle.rules.proofs.Split.{general-free-broken, reserved-free-broken, general-regions-broken, reserved-regions-decide}
+use Rattle.rules.proofs.each_keeps.Statement.{statement}
+use Rattle.rules.proofs.each_keeps.Tie as tie
+
+sub-t : tie.Need-sub-t
+sub-t c = search needs
+
+part-t-start : tie.Need-part-t-start
+part-t-start c = search needs
+
+part-t-end : tie.Need-part-t-end
+part-t-end c = search needs
+
+is-list-requires : tie.Need-is-list-requires
+is-list-requires c κs = search needs
+
+returns : tie.Need-returns
+returns c = general-free-broken (c .before .before .before .before .args .a) (c .before .before .before .before .args .words .now) (sym (c .before .is-list .ensures) ∙ not-true _ (c .if1 .taken))
+
+sub-t-2 : tie.Need-sub-t-2
+sub-t-2 c = search needs
+
+part-t-start-2 : tie.Need-part-t-start-2
+part-t-start-2 c = search needs
+
+part-t-end-2 : tie.Need-part-t-end-2
+part-t-end-2 c = search needs
+
+is-list-requires-2 : tie.Need-is-list-requires-2
+is-list-requires-2 c κs = search needs
+
+returns-2 : tie.Need-returns-2
+returns-2 c =
+    reserved-free-broken (c .before .before .before .before .before .before .before .args .a) (c .before .before .before .before .before .before .before .args .words .now) (sym (c .before .before .before .before .is-list .ensures) ∙ not-false _ (c .before .before .before .if1 .left))
+    (sym (c .before .is-list2 .ensures) ∙ not-true _ (c .if2 .taken))
+
+sub-t-3 : tie.Need-sub-t-3
+sub-t-3 c = search needs
+
+part-t-start-3 : tie.Need-part-t-start-3
+part-t-start-3 c = search needs
+
+part-t-end-3 : tie.Need-part-t-end-3
+part-t-end-3 c = search needs
+
+is-list-requires-3 : tie.Need-is-list-requires-3
+is-list-requires-3 c κs = search needs
+
+returns-3 : tie.Need-returns-3
+returns-3 c =
+    general-regions-broken (c .before .before .before .before .before .before .before .before .before .before .args .a) (c .before .before .before .before .before .before .before .before .before .before .args .words .now) (sym (c .before .before .before .before .before .before .before .is-list .ensures) ∙ not-false _ (c .before .before .before .before .before .before .if1 .left))
+    (sym (c .before .before .before .before .is-list2 .ensures) ∙ not-false _ (c .before .before .before .if2 .left))
+    (sym (c .before .is-list3 .ensures) ∙ not-true _ (c .if3 .taken))
+
+sub-t-4 : tie.Need-sub-t-4
+sub-t-4 c = search needs
+
+part-t-start-4 : tie.Need-part-t-start-4
+part-t-start-4 c = search needs
+
+part-t-end-4 : tie.Need-part-t-end-4
+part-t-end-4 c = search needs
+
+is-list-requires-4 : tie.Need-is-list-requires-4
+is-list-requires-4 c κs = search needs
+
+returns-4 : tie.Need-returns-4
+returns-4 c =
+    c .is-list4 .ensures ∙ reserved-regions-decide (c .before .before .before .before .before .before .before .before .before .before .before .before .args .a) (c .before .before .before .before .before .before .before .before .before .before .before .before .args .words .now) (sym (c .before .before .before .before .before .before .before .before .before .is-list .ensures) ∙ not-false _ (c .before .before .before .before .before .before .before .before .if1 .left))
+    (sym (c .before .before .before .before .before .before .is-list2 .ensures) ∙ not-false _ (c .before .before .before .before .before .if2 .left))
+    (sym (c .before .before .before .is-list3 .ensures) ∙ not-false _ (c .before .before .if3 .left))
+
+pub each-keeps-spec : {M : Type 1} → statement M
+each-keeps-spec =
+    tie.close
+    (tie.spec
+    sub-t
+    part-t-start
+    part-t-end
+    is-list-requires
+    returns
+    sub-t-2
+    part-t-start-2
+    part-t-end-2
+    is-list-requires-2
+    returns-2
+    sub-t-3
+    part-t-start-3
+    part-t-end-3
+    is-list-requires-3
+    returns-3
+    sub-t-4
+    part-t-start-4
+    part-t-end-4
+    is-list-requires-4
+    returns-4)
