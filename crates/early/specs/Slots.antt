@@ -18,6 +18,10 @@ pub record IsEarly (l : EarlyList) : Type 0 where
   pub size : length (slotsOf l) ≡ 32
   pub plain : earlyOf (slotsOf l) ≡ l
 
+-- the list with these arrays: a search that is made for each of many ranges is lent them, and copies no list
+abbrev pub listOf : List ℕ → List ℕ → List Bool → EarlyList
+listOf starts ends flags = record { starts = starts; ends = ends; used = flags }
+
 -- where the first slot that is not used stands
 unfoldable pub firstUnused : List Slot → Place
 firstUnused [] = nowhere

@@ -10,8 +10,10 @@ ghost use Rattle.model.specs.Lists.{used, entries, anyOf, firstWhere, insertEar
 ghost use Rattle.model.specs.Rules.{tidy};
 ghost use Rattle.tables.specs.Words.{placeOf};
 ghost use Rattle.model.specs.Store.{slotsOf, earlyOf};
-ghost use Rattle.early.specs.Slots.{IsEarly, firstUnused, framesIn, wants};
+ghost use Rattle.early.specs.Slots.{IsEarly, listOf, firstUnused, framesIn, wants};
 use memory_structs::FrameRange;
+use memory_structs::highest;
+use memory_structs::lowest;
 use model::EarlyList;
 use tables::Found;
 
@@ -125,12 +127,20 @@ fn is_inside(outer_start: u64, outer_end: u64, start: u64, end: u64) -> bool
 }
 
 // Whether a used slot from `from` on has a frame of the range.
-pub fn meets_from(l: EarlyList, from: usize, start: u64, end: u64) -> bool
-    ensures { λ r. ⌜ r ≡ anyOf (meets (range start end)) (entries (drop from (slotsOf l))) ⌝ }
+pub fn meets_from<'a>(
+    starts: &'a [u64; 32],
+    ends: &'a [u64; 32],
+    used: &'a [bool; 32],
+    from: usize,
+    start: u64,
+    end: u64,
+) -> bool
+    requires { ⌜ length (slotsOf (listOf (now starts) (now ends) (now used))) ≡ 32 ⌝ }
+    ensures { λ r. ⌜ r ≡ anyOf (meets (range start end)) (entries (drop from (slotsOf (listOf (now (starts .entry)) (now (ends .entry)) (now (used .entry)))))) ⌝ }
 {
     let mut i = from;
     while i < 32 {
-        if l.used[i] && meet(start, end, l.starts[i], l.ends[i]) {
+        if used[i] && meet(start, end, starts[i], ends[i]) {
             return true;
         }
         i += 1;
@@ -139,15 +149,21 @@ pub fn meets_from(l: EarlyList, from: usize, start: u64, end: u64) -> bool
 }
 
 // How many frames of the range the used slots have, added up over the slots.
-pub fn frames_in(l: EarlyList, start: u64, end: u64) -> u64
-    requires { ⌜ tidy false (slotsOf l) ≡ true ⌝ }
-    ensures { λ r. ⌜ r ≡ framesIn (range start end) (entries (slotsOf l)) ⌝ }
+pub fn frames_in<'a>(
+    starts: &'a [u64; 32],
+    ends: &'a [u64; 32],
+    used: &'a [bool; 32],
+    start: u64,
+    end: u64,
+) -> u64
+    requires { ⌜ tidy false (slotsOf (listOf (now starts) (now ends) (now used))) ≡ true ⌝ }
+    ensures { λ r. ⌜ r ≡ framesIn (range start end) (entries (slotsOf (listOf (now (starts .entry)) (now (ends .entry)) (now (used .entry))))) ⌝ }
 {
     let mut total = 0;
     let mut i = 0;
     while i < 32 {
-        let frames = if l.used[i] {
-            common_frames(start, end, l.starts[i], l.ends[i])
+        let frames = if used[i] {
+            common_frames(start, end, starts[i], ends[i])
         } else {
             0
         };
@@ -158,13 +174,19 @@ pub fn frames_in(l: EarlyList, start: u64, end: u64) -> u64
 }
 
 // Whether the range lies in the union of the used slots.
-pub fn covers(l: EarlyList, start: u64, end: u64) -> bool
-    requires { ⌜ tidy false (slotsOf l) ≡ true ⌝ }
+pub fn covers<'a>(
+    starts: &'a [u64; 32],
+    ends: &'a [u64; 32],
+    used: &'a [bool; 32],
+    start: u64,
+    end: u64,
+) -> bool
+    requires { ⌜ tidy false (slotsOf (listOf (now starts) (now ends) (now used))) ≡ true ⌝ }
     requires { ⌜ start ≤ end ⌝ }
-    ensures { λ r. ⌜ r ≡ inUnion (entries (slotsOf l)) (range start end) ⌝ }
+    ensures { λ r. ⌜ r ≡ inUnion (entries (slotsOf (listOf (now (starts .entry)) (now (ends .entry)) (now (used .entry))))) (range start end) ⌝ }
 {
     // No frame is in two slots: where they have as many frames of the range as there are, they have each.
-    end - start < frames_in(l, start, end)
+    end - start < frames_in(starts, ends, used, start, end)
 }
 
 // How many frames the used slots have; none is above the top.
@@ -172,7 +194,7 @@ pub fn sum(l: EarlyList) -> u64
     requires { ⌜ tidy false (slotsOf l) ≡ true ⌝ }
     ensures { λ r. ⌜ r ≡ model.sum (entries (slotsOf l)) ⌝ }
 {
-    frames_in(l, 0, FrameRange::TOP)
+    frames_in(&l.starts, &l.ends, &l.used, 0, FrameRange::TOP)
 }
 
 // Whether two ranges have a frame in common.
@@ -199,7 +221,5 @@ fn common_frames(a_start: u64, a_end: u64, b_start: u64, b_end: u64) -> u64
 fn common(a_start: u64, a_end: u64, b_start: u64, b_end: u64) -> FrameRange
     ensures { λ r. ⌜ r ≡ range.common (range «a_start» «a_end») (range «b_start» «b_end») ⌝ }
 {
-    let start = if a_start < b_start { b_start } else { a_start };
-    let end = if a_end < b_end { a_end } else { b_end };
-    FrameRange { start, end }
+    FrameRange::new(highest(a_start, b_start), lowest(a_end, b_end))
 }

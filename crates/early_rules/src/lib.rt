@@ -3,11 +3,12 @@ ghost use mathlib.Core.Path.{_≡_};
 ghost use mathlib.Core.Bool.{true, false, _&&_};
 ghost use Prim.Native.Nat.{_+_, _<_};
 ghost use lib.Dec.{eqb};
-ghost use lib.ListN.{drop, getD};
+ghost use lib.ListN.{length, drop, getD};
 ghost use Rattle.memory_structs.specs.Range.{meets};
 ghost use Rattle.model.specs.Lists.{entries, anyOf, allOf, inUnion};
 ghost use Rattle.model.specs.Rules.{tidy};
 ghost use Rattle.model.specs.Store.{slotsOf, emptied, noneUsed};
+ghost use Rattle.early.specs.Slots.{listOf};
 ghost use Rattle.early_rules.specs.Slot.{tidySlot};
 use memory_structs::FrameRange;
 use model::EarlyList;
@@ -32,7 +33,7 @@ pub fn is_tidy(l: EarlyList) -> bool
 {
     let mut i = 0;
     while i < 32 {
-        if !is_tidy_slot(l, i) {
+        if !is_tidy_slot(&l.starts, &l.ends, &l.used, i) {
             return false;
         }
         i += 1;
@@ -41,13 +42,19 @@ pub fn is_tidy(l: EarlyList) -> bool
 }
 
 // What `is_tidy` says, of the slot at i; whether its entry meets another is asked of those after it alone.
-fn is_tidy_slot(l: EarlyList, i: usize) -> bool
+fn is_tidy_slot<'a>(
+    starts: &'a [u64; 32],
+    ends: &'a [u64; 32],
+    used: &'a [bool; 32],
+    i: usize,
+) -> bool
+    requires { ⌜ length (slotsOf (listOf (now starts) (now ends) (now used))) ≡ 32 ⌝ }
     requires { ⌜ i < 32 ⌝ }
-    ensures { λ r. ⌜ r ≡ tidySlot (getD (l .starts) i 0) (getD (l .ends) i 0) (getD (l .used) i false) (entries (drop (i + 1) (slotsOf l))) ⌝ }
+    ensures { λ r. ⌜ r ≡ tidySlot (getD (now (starts .entry)) i 0) (getD (now (ends .entry)) i 0) (getD (now (used .entry)) i false) (entries (drop (i + 1) (slotsOf (listOf (now (starts .entry)) (now (ends .entry)) (now (used .entry)))))) ⌝ }
 {
-    let start = l.starts[i];
-    let end = l.ends[i];
-    if !l.used[i] {
+    let start = starts[i];
+    let end = ends[i];
+    if !used[i] {
         return is_empty_constant(start, end);
     }
     if end < start {
@@ -56,7 +63,7 @@ fn is_tidy_slot(l: EarlyList, i: usize) -> bool
     if FrameRange::TOP < end {
         return false;
     }
-    !early::meets_from(l, i + 1, start, end)
+    !early::meets_from(starts, ends, used, i + 1, start, end)
 }
 
 // Whether the two numbers are those of the empty range [1,0].
@@ -74,7 +81,15 @@ pub fn covers_all(regions: EarlyList, chunks: EarlyList) -> bool
 {
     let mut i = 0;
     while i < 32 {
-        if chunks.used[i] && !early::covers(regions, chunks.starts[i], chunks.ends[i]) {
+        if chunks.used[i]
+            && !early::covers(
+                &regions.starts,
+                &regions.ends,
+                &regions.used,
+                chunks.starts[i],
+                chunks.ends[i],
+            )
+        {
             return false;
         }
         i += 1;
@@ -88,7 +103,7 @@ pub fn meet(a: EarlyList, b: EarlyList) -> bool
 {
     let mut i = 0;
     while i < 32 {
-        if a.used[i] && early::meets_from(b, 0, a.starts[i], a.ends[i]) {
+        if a.used[i] && early::meets_from(&b.starts, &b.ends, &b.used, 0, a.starts[i], a.ends[i]) {
             return true;
         }
         i += 1;

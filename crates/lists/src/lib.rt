@@ -81,7 +81,8 @@ pub fn meets(l: OneList, t: &[u64], start: u64, end: u64) -> bool
             Found::Nowhere => false,
         };
     }
-    early::meets_from(l.early, 0, start, end)
+    let e = l.early;
+    early::meets_from(&e.starts, &e.ends, &e.used, 0, start, end)
 }
 
 // Whether every frame of the range is in an entry; entries may touch.
@@ -94,7 +95,8 @@ pub fn covers(l: OneList, t: &[u64], start: u64, end: u64) -> bool
     if l.sorted {
         return tables::covers(t, l.len, start, end);
     }
-    early::covers(l.early, start, end)
+    let e = l.early;
+    early::covers(&e.starts, &e.ends, &e.used, start, end)
 }
 
 // The frames of all entries.

@@ -1,7 +1,7 @@
 -- Every call goes by the number of the test.
 use Prim.Native.Nat.{ℕ, suc, _≤_, _<_}
 use native.Mathlib.Omega.{arith}
-use mathlib.Core.Path.{_≡_, refl, sym, _∙_}
+use mathlib.Core.Path.{_≡_, refl}
 use mathlib.Core.Bool.{Bool, true, false, _||_}
 use mathlib.Core.List.{List}
 use lib.ListN.{length}
@@ -9,7 +9,7 @@ use lib.Dec.{ltb}
 use borrow.Author.Tests.{ltb-false, lt-ltb, le-ltb}
 use Rattle.memory_structs.specs.Choice.{if_then_else_}
 use Rattle.model.specs.Store.{load}
-use Rattle.model.specs.Calls.{Call, Outcome, answer, shortBuffer, unchanged, stored, keepsRules, call}
+use Rattle.model.specs.Calls.{Call, answer, shortBuffer, unchanged, stored, keepsRules, call}
 use Rattle.model.specs.declared.FrameAllocator.{FrameAllocator}
 use Rattle.rules.specs.Check.{checked, eachKeeps, listsAgree}
 use Rattle.rules.proofs.Split.{in-order}

@@ -1,5 +1,5 @@
 -- The rules, list by list and then between lists.
-use mathlib.Core.Path.{_≡_, refl, sym, ap, _∙_}
+use mathlib.Core.Path.{_≡_, refl, ap}
 use mathlib.Core.Bool.{Bool, true, false, not, _&&_, false≢true, true≢false}
 use mathlib.Core.List.{List}
 use Prim.Native.Nat.{ℕ, _*_, _≤_}
@@ -9,7 +9,7 @@ use lib.Dec.{leb, eqb}
 use borrow.Author.Tests.{leb-true, eq-eqb, ne-eqb}
 use Rattle.memory_structs.specs.Range.{meets}
 use Rattle.memory_structs.proofs.Bools.{both-first, both-second}
-use Rattle.model.specs.Lists.{Lists, Slot, entries, anyOf, allOf, inUnion}
+use Rattle.model.specs.Lists.{Slot, entries, anyOf, allOf, inUnion}
 use Rattle.model.specs.Rules.{tidy, rules}
 use Rattle.model.specs.Store.{slotsIn, slotsOf, tableSlots, emptied, noneUsed, allZero, storedIn, storeRules, load, part}
 use Rattle.model.specs.Calls.{keepsRules}

@@ -9,32 +9,26 @@ use lib.Dec.{leb}
 use borrow.Author.Tests.{leb-true, leb-false}
 use Rattle.memory_structs.specs.Range.{top}
 use Rattle.memory_structs.specs.declared.range.FrameRange.{FrameRange}
-use Rattle.memory_structs.proofs.Cover.{cov-below, cov-cases}
+use Rattle.memory_structs.proofs.Cover.{cov-cases}
 use Rattle.model.specs.Lists.{Slot, unused, used, entries, allOf, disjoint, bound}
 use Rattle.model.specs.Rules.{rising, slotted, tidy}
 use Rattle.model.specs.Store.{tableSlots}
 use Rattle.model.proofs.Cover.{tally, count}
-use Rattle.model.proofs.Lawful.{Sound, AllSound}
-use Rattle.model.proofs.Ruled.{tidy-is, is-tidy}
+use Rattle.model.proofs.Lawful.{AllSound}
+use Rattle.model.proofs.Ruled.{is-tidy}
 use Rattle.model.proofs.Stored.{table-length}
 use Rattle.tables.proofs.Search.{pairAt, pair-drop}
-use Rattle.tables.proofs.Spaced.{Spaced, tidy-spaced, spaced-rising}
+use Rattle.tables.proofs.Spaced.{Spaced, tidy-spaced, spaced-rising, none-under}
+use Rattle.tables.proofs.Sums.{tidy-pair}
 
--- no frame below the first of them, and none twice
-pub none-under : (m f : ℕ) (s : List Slot) → Spaced m s → f < m → tally f s ≡ 0
-unfolding Spaced tally
-none-under m f [] a h = refl
-none-under m f (unused ∷ s) a h = absurd a
-none-under m f (used r ∷ s) a h =
-    omega (arith, a .0, a .1, cov-below r f (omega (arith, a .0)), none-under (r .end + 1) f s (a .2) (omega (arith, a .0, a .1)))
-
+-- no frame twice
 once : (m f : ℕ) (s : List Slot) → Spaced m s → tally f s ≤ 1
 unfolding Spaced tally
 once m f [] a = omega arith
 once m f (unused ∷ s) a = absurd a
 once m f (used r ∷ s) a =
     cov-cases r f
-    (λ u v w. omega (arith, none-under (r .end + 1) f s (a .2) (omega arith)))
+    (λ u v w. omega (arith, none-under f (r .end + 1) s (a .2) (omega arith)))
     (λ u w. omega (arith, once (r .end + 1) f s (a .2)))
     (λ u w. omega (arith, once (r .end + 1) f s (a .2)))
 
@@ -56,12 +50,6 @@ spaced-tidy s h a b = is-tidy true s (record {
     few = omega (arith, used-all 0 s a)
 
 -- the pairs by their places
-
-pub sound-pair : (n : ℕ) (ws : List ℕ) (i : ℕ) → AllSound (tableSlots n ws) → i < n → Sound (pairAt ws i)
-unfolding tableSlots AllSound
-sound-pair zero ws i a h = absurd (omega arith)
-sound-pair (suc n) ws zero a h = a .0
-sound-pair (suc n) ws (suc i) a h = subst Sound (pair-drop i ws) (sound-pair n (drop 2 ws) i (a .1) (omega arith))
 
 above-last : (m n : ℕ) (ws : List ℕ) → Spaced m (tableSlots (suc n) ws) → m ≤ pairAt ws 0 .start
 unfolding tableSlots Spaced
@@ -144,7 +132,7 @@ no false h = refl
 module _ (n : ℕ) (ws : List ℕ) where
   -- what refutes that a table is tidy
   pub not-filled : (i : ℕ) → i < n → pairAt ws i .end < pairAt ws i .start → tidy true (tableSlots n ws) ≡ false
-  not-filled i h e = no _ (λ t. omega (arith, sound-pair n ws i (tidy-is true (tableSlots n ws) t .shape .sound) h .filled))
+  not-filled i h e = no _ (λ t. omega (arith, tidy-pair n ws t i h .filled))
 
   pub not-above : (i : ℕ) → 0 < i → i < n → getD ws (2 * i) 0 ≤ getD ws (2 * i - 1) 0 → tidy true (tableSlots n ws) ≡ false
   not-above i p h e =
@@ -166,12 +154,9 @@ module _ (n : ℕ) (ws : List ℕ) where
 
       go : (b : Bool) → leb (getD ws (2 * n - 1) 0) top ≡ b → b ≡ tidy true (tableSlots n ws)
       go true e = sym (whole (omega (arith, leb-true (getD ws (2 * n - 1) 0) top e, end-before ws (n - 1) n k)))
-      go false e = sym (no _ (λ t. omega (arith, leb-false (getD ws (2 * n - 1) 0) top e, end-before ws (n - 1) n k, sound-pair n ws (n - 1) (tidy-is true (tableSlots n ws) t .shape .sound) (omega arith) .low)))
+      go false e = sym (no _ (λ t. omega (arith, leb-false (getD ws (2 * n - 1) 0) top e, end-before ws (n - 1) n k, tidy-pair n ws t (n - 1) (omega arith) .low)))
 
 -- no pairs
 pub none-tidy : (n : ℕ) (ws : List ℕ) → n ≡ 0 → true ≡ tidy true (tableSlots n ws)
 unfolding tableSlots tidy slotted rising entries bound allOf disjoint
 none-tidy n ws e = sym (ap (λ (k : ℕ). tidy true (tableSlots k ws)) e)
-
-pub low-pair : (n : ℕ) (ws : List ℕ) (i : ℕ) → tidy true (tableSlots n ws) ≡ true → i < n → pairAt ws i .end ≤ top
-low-pair n ws i t h = sound-pair n ws i (tidy-is true (tableSlots n ws) t .shape .sound) h .low

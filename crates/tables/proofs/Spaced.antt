@@ -54,6 +54,12 @@ spaced m (used r ∷ s) a b once =
 pub tidy-spaced : (s : List Slot) → tidy true s ≡ true → Spaced 0 s
 tidy-spaced s e = let t = tidy-is true s e in spaced 0 s (t .shape .slots) (t .shape .sound) (t .once)
 
+pub spaced-lower : (m k : ℕ) (s : List Slot) → m ≤ k → Spaced k s → Spaced m s
+unfolding Spaced
+spaced-lower m k [] h a = tt
+spaced-lower m k (unused ∷ s) h a = absurd a
+spaced-lower m k (used r ∷ s) h a = (omega (arith, a .0), a .1, a .2)
+
 -- a frame below what is spaced from m on is in none of it
 pub none-under : (f m : ℕ) (s : List Slot) → Spaced m s → f < m → tally f s ≡ 0
 unfolding Spaced tally

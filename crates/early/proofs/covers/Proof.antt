@@ -5,6 +5,7 @@ use lib.Dec.{ltb}
 use borrow.Author.Needs.{needs}
 use Rattle.model.specs.Store.{slotsOf}
 use Rattle.model.proofs.Ruled.{tidy-is}
+use Rattle.early.specs.Slots.{listOf}
 use Rattle.early.proofs.Covered.{counted}
 use Rattle.early.proofs.covers.Statement.{statement}
 use Rattle.early.proofs.covers.Tie as tie
@@ -20,7 +21,7 @@ returns c =
     let s = c .before in
     let a = s .args in
     ap (λ (n : ℕ). ltb (a .end - a .start) n) (c .frames-in .ensures)
-    ∙ counted (slotsOf (a .l)) (tidy-is _ _ (s .pre .0) .once) (a .start) (a .end) (s .pre .1)
+    ∙ counted (slotsOf (listOf (a .starts .now) (a .ends .now) (a .used .now))) (tidy-is _ _ (s .pre .0) .once) (a .start) (a .end) (s .pre .1)
 
 pub covers-spec : {M : Type 1} → statement M
 covers-spec = tie.close (tie.spec sub-result frames-in-requires returns)

@@ -4,17 +4,23 @@ use mathlib.Core.Logic.{⊎-elim}
 use Prim.Native.Nat.{_+_, _-_, _*_, _≤_}
 use Rattle.memory_structs.specs.Range.{range, top}
 use Rattle.model.proofs.Ruled.{tidy-is}
-use Rattle.early.specs.Slots.{framesIn}
+use Rattle.model.specs.declared.EarlyList.{EarlyList}
+use Rattle.early.specs.Slots.{listOf, framesIn}
 use Rattle.early.proofs.UsedSlots.{entriesFrom, none-used, frames-here, frames-none, used-sound}
 use native.Mathlib.Omega.{arith}
 use Rattle.early.proofs.frames_in.Statement.{statement}
 use Rattle.early.proofs.frames_in.Tie as tie
 
 abbrev Inv-loop : tie.InvT-loop
-Inv-loop start end l total₀ i₀ total i = (i ≤ 32) × (total ≤ i * (top + 1)) × (framesIn (range start end) (entriesFrom 0 l) ≡ total + framesIn (range start end) (entriesFrom i l))
+Inv-loop starts ends used start end total₀ i₀ total i =
+    (i ≤ 32) × (total ≤ i * (top + 1)) × (framesIn (range start end) (entriesFrom 0 (listOf starts ends used)) ≡ total + framesIn (range start end) (entriesFrom i (listOf starts ends used)))
 
 abbrev μ-loop : tie.MeasureT-loop
-μ-loop start end l total₀ i₀ total i = 32 - i
+μ-loop starts ends used start end total₀ i₀ total i = 32 - i
+
+-- the list whose arrays are lent
+abbrev list : tie.Start Inv-loop μ-loop → EarlyList
+list c = listOf (c .args .starts .now) (c .args .ends .now) (c .args .used .now)
 
 loop-holds : tie.Need-loop-holds Inv-loop μ-loop
 loop-holds c = omega arith
@@ -39,13 +45,13 @@ common-frames-requires c κs =
     let k = c .before .before .before .before .before in
     let s = k .before in
     let t = tidy-is _ _ (s .pre) in
-    used-sound (s .args .t1) (k .loop .i) (t .shape .slots) (omega arith) (c .before .before .if1 .taken) (t .shape .sound) .low
+    used-sound (list s) (k .loop .i) (t .shape .slots) (omega arith) (c .before .before .if1 .taken) (t .shape .sound) .low
 
 -- what the slot i has of the range
 turn : (c : tie.Joined1 Inv-loop μ-loop)
     → (c .if1 .frames ≤ top + 1)
-    × (framesIn (range (c .before .before .before .before .args .start) (c .before .before .before .before .args .end)) (entriesFrom (c .before .before .before .loop .i) (c .before .before .before .before .args .t1))
-    ≡ c .if1 .frames + framesIn (range (c .before .before .before .before .args .start) (c .before .before .before .before .args .end)) (entriesFrom (c .before .before .before .loop .i + 1) (c .before .before .before .before .args .t1)))
+    × (framesIn (range (c .before .before .before .before .args .start) (c .before .before .before .before .args .end)) (entriesFrom (c .before .before .before .loop .i) (list (c .before .before .before .before)))
+    ≡ c .if1 .frames + framesIn (range (c .before .before .before .before .args .start) (c .before .before .before .before .args .end)) (entriesFrom (c .before .before .before .loop .i + 1) (list (c .before .before .before .before))))
 turn c =
     let k = c .before .before .before in
     let s = k .before in
@@ -54,8 +60,8 @@ turn c =
     let t = tidy-is _ _ (s .pre) in
     let r = range (a .start) (a .end) in
     ⊎-elim
-    (λ w. omega (arith, w .3 .ensures, used-sound (a .t1) i (t .shape .slots) (omega arith) (w .0 .taken) (t .shape .sound), frames-here r (a .t1) i (t .shape .slots) (omega arith) (w .0 .taken)))
-    (λ w. omega (arith, ap (framesIn r) (none-used (a .t1) i (t .shape .slots) (omega arith) (w .0 .left)))) (c .if1 .came)
+    (λ w. omega (arith, w .3 .ensures, used-sound (list s) i (t .shape .slots) (omega arith) (w .0 .taken) (t .shape .sound), frames-here r (list s) i (t .shape .slots) (omega arith) (w .0 .taken)))
+    (λ w. omega (arith, ap (framesIn r) (none-used (list s) i (t .shape .slots) (omega arith) (w .0 .left)))) (c .if1 .came)
 
 add-total : tie.Need-add-total Inv-loop μ-loop
 add-total c = omega (arith, turn (c .before))
@@ -73,7 +79,7 @@ returns : tie.Need-returns Inv-loop μ-loop
 returns c =
     let s = c .before .before in
     let a = s .args in
-    omega (arith, frames-none (range (a .start) (a .end)) (a .t1) (c .before .loop .i) (tidy-is _ _ (s .pre) .shape .slots) (omega arith))
+    omega (arith, frames-none (range (a .start) (a .end)) (list s) (c .before .loop .i) (tidy-is _ _ (s .pre) .shape .slots) (omega arith))
 
 pub frames-in-spec : {M : Type 1} → statement M
 frames-in-spec =

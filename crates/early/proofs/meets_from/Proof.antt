@@ -8,16 +8,22 @@ use borrow.Author.Needs.{needs}
 use Rattle.memory_structs.specs.Range.{range, meets}
 use Rattle.memory_structs.specs.declared.range.FrameRange.{FrameRange}
 use Rattle.model.specs.Lists.{anyOf}
-use Rattle.early.proofs.Slots.{array-sizes, slots-size}
+use Rattle.model.specs.declared.EarlyList.{EarlyList}
+use Rattle.early.specs.Slots.{listOf}
 use Rattle.early.proofs.UsedSlots.{entriesFrom, none-used, any-here, any-later, any-none}
 use Rattle.early.proofs.meets_from.Statement.{statement}
 use Rattle.early.proofs.meets_from.Tie as tie
 
 abbrev Inv-loop : tie.InvT-loop
-Inv-loop from start end l i₀ i = anyOf (meets (range start end)) (entriesFrom from l) ≡ anyOf (meets (range start end)) (entriesFrom i l)
+Inv-loop starts ends used from start end i₀ i =
+    anyOf (meets (range start end)) (entriesFrom from (listOf starts ends used)) ≡ anyOf (meets (range start end)) (entriesFrom i (listOf starts ends used))
 
 abbrev μ-loop : tie.MeasureT-loop
-μ-loop from start end l i₀ i = 32 - i
+μ-loop starts ends used from start end i₀ i = 32 - i
+
+-- the list whose arrays are lent
+abbrev list : tie.Start Inv-loop μ-loop → EarlyList
+list c = listOf (c .args .starts .now) (c .args .ends .now) (c .args .used .now)
 
 loop-holds : tie.Need-loop-holds Inv-loop μ-loop
 loop-holds c = refl
@@ -45,7 +51,7 @@ returns c =
     let k = c .before .before .before .before .before .before .before in
     let s = k .before in
     let a = s .args in
-    sym (k .loop .inv ∙ any-here (meets (range (a .start) (a .end))) (a .t1) (k .loop .i) (slots-size (a .t1) (array-sizes (a .t1) (s .good .0))) (omega arith) (c .before .before .before .before .if1 .taken) (sym (c .before .meet .ensures) ∙ c .if2 .taken))
+    sym (k .loop .inv ∙ any-here (meets (range (a .start) (a .end))) (list s) (k .loop .i) (s .pre) (omega arith) (c .before .before .before .before .if1 .taken) (sym (c .before .meet .ensures) ∙ c .if2 .taken))
 
 add-i : tie.Need-add-i Inv-loop μ-loop
 add-i c = omega arith
@@ -59,15 +65,15 @@ loop-again c =
     let s = k .before in
     let a = s .args in
     let i = k .loop .i in
-    let n = slots-size (a .t1) (array-sizes (a .t1) (s .good .0)) in
+    let n = s .pre in
     let p : FrameRange → Bool = meets (range (a .start) (a .end)) in
-    k .loop .inv ∙ ⊎-elim (λ w. any-later p (a .t1) i n (omega arith) (w .0 .taken) (sym (w .3 .ensures) ∙ w .4 .left)) (λ w. ap (anyOf p) (none-used (a .t1) i n (omega arith) (w .left))) (c .if1 .came)
+    k .loop .inv ∙ ⊎-elim (λ w. any-later p (list s) i n (omega arith) (w .0 .taken) (sym (w .3 .ensures) ∙ w .4 .left)) (λ w. ap (anyOf p) (none-used (list s) i n (omega arith) (w .left))) (c .if1 .came)
 
 returns-2 : tie.Need-returns-2 Inv-loop μ-loop
 returns-2 c =
     let s = c .before .before in
     let a = s .args in
-    sym (c .before .loop .inv ∙ any-none (meets (range (a .start) (a .end))) (a .t1) (c .before .loop .i) (slots-size (a .t1) (array-sizes (a .t1) (s .good .0))) (omega arith))
+    sym (c .before .loop .inv ∙ any-none (meets (range (a .start) (a .end))) (list s) (c .before .loop .i) (s .pre) (omega arith))
 
 pub meets-from-spec : {M : Type 1} → statement M
 meets-from-spec =

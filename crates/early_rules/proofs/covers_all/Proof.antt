@@ -40,17 +40,17 @@ element-copy-out-covers-2 c = omega arith
 
 covers-requires : tie.Need-covers-requires Inv-loop μ-loop
 covers-requires c κs =
-    let k = c .before .before .before .before .before in
+    let k = c .before .before .before .before .before .before .before .before .before in
     let s = k .before in
     let t = tidy-is _ _ (s .pre .1) in
-    (s .pre .0, used-sound (s .args .t2) (k .loop .i) (t .shape .slots) (omega arith) (c .before .before .if1 .taken) (t .shape .sound) .filled)
+    (s .pre .0, used-sound (s .args .t2) (k .loop .i) (t .shape .slots) (omega arith) (c .before .before .before .before .before .before .if1 .taken) (t .shape .sound) .filled)
 
 returns : tie.Need-returns Inv-loop μ-loop
 returns c =
-    let k = c .before .before .before .before .before .before .before in
+    let k = c .before .before .before .before .before .before .before .before .before .before .before in
     let s = k .before in
     let a = s .args in
-    sym (k .loop .inv ∙ all-fails (inUnion (entries (slotsOf (a .regions)))) (a .t2) (k .loop .i) (tidy-is _ _ (s .pre .1) .shape .slots) (omega arith) (c .before .before .before .before .if1 .taken) (sym (c .before .covers .ensures) ∙ not-true _ (c .if2 .taken)))
+    sym (k .loop .inv ∙ all-fails (inUnion (entries (slotsOf (a .t1)))) (a .t2) (k .loop .i) (tidy-is _ _ (s .pre .1) .shape .slots) (omega arith) (c .before .before .before .before .before .before .before .before .if1 .taken) (sym (c .before .covers .ensures) ∙ not-true _ (c .if2 .taken)))
 
 add-i : tie.Need-add-i Inv-loop μ-loop
 add-i c = omega arith
@@ -65,14 +65,14 @@ loop-again c =
     let a = s .args in
     let i = k .loop .i in
     let n = tidy-is _ _ (s .pre .1) .shape .slots in
-    let p : FrameRange → Bool = inUnion (entries (slotsOf (a .regions))) in
-    k .loop .inv ∙ ⊎-elim (λ w. all-later p (a .t2) i n (omega arith) (w .0 .taken) (sym (w .3 .ensures) ∙ not-false _ (w .4 .left))) (λ w. ap (allOf p) (none-used (a .t2) i n (omega arith) (w .left))) (c .if1 .came)
+    let p : FrameRange → Bool = inUnion (entries (slotsOf (a .t1))) in
+    k .loop .inv ∙ ⊎-elim (λ w. all-later p (a .t2) i n (omega arith) (w .0 .taken) (sym (w .7 .ensures) ∙ not-false _ (w .8 .left))) (λ w. ap (allOf p) (none-used (a .t2) i n (omega arith) (w .left))) (c .if1 .came)
 
 returns-2 : tie.Need-returns-2 Inv-loop μ-loop
 returns-2 c =
     let s = c .before .before in
     let a = s .args in
-    sym (c .before .loop .inv ∙ all-done (inUnion (entries (slotsOf (a .regions)))) (a .t2) (c .before .loop .i) (tidy-is _ _ (s .pre .1) .shape .slots) (omega arith))
+    sym (c .before .loop .inv ∙ all-done (inUnion (entries (slotsOf (a .t1)))) (a .t2) (c .before .loop .i) (tidy-is _ _ (s .pre .1) .shape .slots) (omega arith))
 
 pub covers-all-spec : {M : Type 1} → statement M
 covers-all-spec =

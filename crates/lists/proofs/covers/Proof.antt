@@ -21,13 +21,13 @@ returns c =
 
 covers-requires-2 : tie.Need-covers-requires-2
 covers-requires-2 c κs =
-    let s = c .before .before in
-    (sym (at-early tidy (s .args .l) (s .args .t .now) (c .if1 .left)) ∙ s .pre .1 .0, omega arith)
+    let s = c .before .before .before .before .before .before .before in
+    (sym (at-early tidy (s .args .l) (s .args .t .now) (c .before .before .before .before .before .if1 .left)) ∙ s .pre .1 .0, omega arith)
 
 returns-2 : tie.Need-returns-2
 returns-2 c =
-    let s = c .before .before .before in
-    c .covers2 .ensures ∙ sym (at-early (λ b x. inUnion (entries x) (range (s .args .start) (s .args .end))) (s .args .l) (s .args .t .now) (c .before .if1 .left))
+    let s = c .before .before .before .before .before .before .before .before in
+    c .covers2 .ensures ∙ sym (at-early (λ b x. inUnion (entries x) (range (s .args .start) (s .args .end))) (s .args .l) (s .args .t .now) (c .before .before .before .before .before .before .if1 .left))
 
 pub covers-spec : {M : Type 1} → statement M
 covers-spec = tie.close (tie.spec covers-requires returns covers-requires-2 returns-2)

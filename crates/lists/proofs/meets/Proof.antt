@@ -13,7 +13,7 @@ use Rattle.model.specs.Store.{tableSlots}
 use Rattle.tables.specs.Words.{placeOf}
 use Rattle.tables.proofs.Search.{range-at}
 use Rattle.tables.proofs.Touching.{tidy-rising, pair-bound}
-use Rattle.lists.proofs.One.{as-table, at-sorted}
+use Rattle.lists.proofs.One.{as-early, as-table, at-sorted}
 use Rattle.lists.proofs.Meeting.{reaches, met-sorted, met-early}
 use Rattle.lists.proofs.meets.Statement.{statement}
 use Rattle.lists.proofs.meets.Tie as tie
@@ -72,12 +72,14 @@ returns-2 c =
     met-sorted (range (a .start) (a .end)) (a .l) (a .t .now) (s .pre .1 .1) (k .before .if1 .taken) (s .pre .1 .0) nowhere (sym (ap placeOf (c .enum-told .given .1)) ∙ k .highest-at-or-below .ensures)
 
 meets-from-requires : tie.Need-meets-from-requires
-meets-from-requires c κs = search needs
+meets-from-requires c κs =
+    let s = c .before .before .before .before .before .before .before in
+    as-early (s .args .l) (s .args .t .now) (s .pre .0) (c .before .before .before .before .before .if1 .left) .size
 
 returns-3 : tie.Need-returns-3
 returns-3 c =
-    let a = c .before .before .before .args in
-    c .meets-from .ensures ∙ met-early (range (a .start) (a .end)) (a .l) (a .t .now) (c .before .if1 .left)
+    let a = c .before .before .before .before .before .before .before .before .args in
+    c .meets-from .ensures ∙ met-early (range (a .start) (a .end)) (a .l) (a .t .now) (c .before .before .before .before .before .before .if1 .left)
 
 pub meets-spec : {M : Type 1} → statement M
 meets-spec =

@@ -1,7 +1,7 @@
 -- `covers_all`: at each turn a region that is done with is passed, or a chunk that lies in regions.
 use native.Mathlib.Omega.{arith}
 use Prim.Native.Nat.{_+_, _-_}
-use Rattle.table_rules.proofs.Spacing.{low-pair}
+use Rattle.tables.proofs.Sums.{tidy-pair}
 use Rattle.table_rules.proofs.Walks.{Reached, reached-start, covered-ends, no-region, region-below, in-gap, chunk-in, chunk-on}
 use Rattle.table_rules.proofs.covers_all.Statement.{statement}
 use Rattle.table_rules.proofs.covers_all.Tie as tie
@@ -130,7 +130,7 @@ add-from-2 : tie.Need-add-from-2 Inv-loop μ-loop
 add-from-2 c =
     let l = c .before .before .before .before .before .before .before .before .before .before .before .before in
     let a = l .before .before .before .args in
-    omega (arith, low-pair (a .m) (a .regions .now) (l .loop .j) (l .before .before .before .pre .1 .0) (omega arith))
+    omega (arith, tidy-pair (a .m) (a .regions .now) (l .before .before .before .pre .1 .0) (l .loop .j) (omega arith) .low)
 
 add-j-2 : tie.Need-add-j-2 Inv-loop μ-loop
 add-j-2 c = omega arith

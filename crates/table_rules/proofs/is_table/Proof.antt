@@ -1,7 +1,7 @@
 -- `is_table`: the parts of the test, one after the other.
 use borrow.Author.Needs.{needs}
 use borrow.Author.Tests.{le-leb, lt-leb}
-use mathlib.Core.Path.{_≡_, sym, _∙_}
+use mathlib.Core.Path.{sym, _∙_}
 use Rattle.table_rules.specs.Table.{isTable}
 use Rattle.table_rules.proofs.is_table.Statement.{statement}
 use Rattle.table_rules.proofs.is_table.Tie as tie
