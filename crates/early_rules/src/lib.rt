@@ -81,16 +81,12 @@ pub fn covers_all(regions: EarlyList, chunks: EarlyList) -> bool
 {
     let mut i = 0;
     while i < 32 {
-        if chunks.used[i]
-            && !early::covers(
-                &regions.starts,
-                &regions.ends,
-                &regions.used,
-                chunks.starts[i],
-                chunks.ends[i],
-            )
-        {
-            return false;
+        if chunks.used[i] {
+            let start = chunks.starts[i];
+            let end = chunks.ends[i];
+            if !early::covers(&regions.starts, &regions.ends, &regions.used, start, end) {
+                return false;
+            }
         }
         i += 1;
     }
