@@ -20,6 +20,7 @@ use Rattle.model.specs.declared.Area.{Area}
 use Rattle.model.specs.declared.ByteArea.{ByteArea}
 use Rattle.model.specs.declared.Kind.{Kind}
 use Rattle.model.specs.declared.FrameAllocator.{FrameAllocator}
+use Rattle.model.specs.declared.Called.{Called}
 
 -- demand 3: "boots, requests by count or address, in frames or bytes, general-only requests, returns, sorts, kinds, free totals, held
 -- lists". The held list's number is the length of its lent buffer, in words.
@@ -102,6 +103,12 @@ unfoldable pub call : Call → FrameAllocator → List ℕ → Outcome
 call c a ws =
     if ltb (length ws) 4096 || shortBuffer c then unchanged 3 a ws else
     if keepsRules a ws then stored (answer c (load a ws)) ws else unchanged 11 a ws
+
+-- a call in code gives what the definition says: answer, record and every word
+pub record Gives (c : Call) (a : FrameAllocator) (before : List ℕ) (called : Called) (after : List ℕ) : Type 0 where
+  pub answers : called .answer ≡ call c a before .answer
+  pub records : called .allocator ≡ call c a before .allocator
+  pub words : after ≡ call c a before .words
 
 -- and what it leaves of the held list's buffer, the one other thing that is lent: "record, workspace and buffers keep every value"
 pub record BufferAfter (a : FrameAllocator) (ws before after : List ℕ) : Type 0 where

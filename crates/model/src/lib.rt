@@ -51,3 +51,9 @@ pub struct FrameAllocator {
     pub general_regions_len: usize,
     pub reserved_regions_len: usize,
 }
+
+// What a call on a record by value hands back: its answer, and the record after it.
+pub struct Called {
+    pub answer: Answer,
+    pub allocator: FrameAllocator,
+}

@@ -1,2 +1,2 @@
 pub mod Split
-pub mod Refused
+pub mod Numbers

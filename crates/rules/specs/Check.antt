@@ -5,18 +5,24 @@ use mathlib.Core.List.{List}
 use lib.ListN.{length}
 use lib.Dec.{ltb}
 use Rattle.memory_structs.specs.Choice.{if_then_else_}
-use Rattle.memory_structs.specs.Range.{meets}
+use Rattle.memory_structs.specs.Range.{empty, meets}
 use Rattle.model.specs.Lists.{Lists, Slot, entries, anyOf, allOf, inUnion}
 use Rattle.model.specs.Rules.{tidy}
 use Rattle.model.specs.Store.{slotsIn, storedIn, part}
 use Rattle.model.specs.Calls.{keepsRules}
+use Rattle.model.specs.declared.Called.{Called}
 use Rattle.model.specs.declared.EarlyList.{EarlyList}
 use Rattle.model.specs.declared.FrameAllocator.{FrameAllocator}
 
 -- 3: "workspace below 4096 words"; 11: "the list rules below are broken"; else 0. "Order: 3, 11".
--- `refused-call` and `accepted-call` (proofs/Refused) say that every call goes by this number.
+-- `refused-call` and `accepted-call` (proofs/Numbers) say that every call goes by this number.
 unfoldable pub checked : FrameAllocator → List ℕ → ℕ
 checked a ws = if ltb (length ws) 4096 then 3 else if keepsRules a ws then 0 else 11
+
+-- "A refusal returns its number, the range [1,0], and 0 and 0 for frame and count except in 15; record, workspace and buffers keep every
+-- value."
+abbrev pub refusedWith : ℕ → FrameAllocator → Called
+refusedWith n a = record { answer = record { number = n; range = empty; frame = 0; count = 0 }; allocator = a }
 
 -- The rules again, in the order of the test: each list by itself, then one list beside another. `in-order` (proofs/Split) says that they
 -- are the same.

@@ -5,7 +5,10 @@ ghost use Prim.Native.Nat.{_≤_};
 ghost use lib.ListN.{length};
 ghost use Rattle.model.specs.Rules.{tidy};
 ghost use Rattle.model.specs.Store.{slotsOf, load};
-ghost use Rattle.rules.specs.Check.{checked, keepsIn, eachKeeps, agree, listsAgree};
+ghost use Rattle.rules.specs.Check.{checked, refusedWith, keepsIn, eachKeeps, agree, listsAgree};
+use memory_structs::FrameRange;
+use model::Answer;
+use model::Called;
 use model::EarlyList;
 use model::FrameAllocator;
 
@@ -22,6 +25,22 @@ pub fn check(a: FrameAllocator, words: &[u64]) -> u64
         }
     }
     11
+}
+
+// "A refusal returns its number, the range [1,0], and 0 and 0 for frame and count"; the record is as it was.
+pub fn refused(a: FrameAllocator, number: u64) -> Called
+    ensures { λ r. ⌜ r ≡ refusedWith number a ⌝ }
+{
+    let answer = Answer {
+        number,
+        range: FrameRange::EMPTY,
+        frame: 0,
+        count: 0,
+    };
+    Called {
+        answer,
+        allocator: a,
+    }
 }
 
 // Whether each list by itself keeps the rules.

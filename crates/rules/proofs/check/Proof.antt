@@ -1,6 +1,6 @@
 -- `check`: the length, each list, then the lists beside one another.
 use mathlib.Core.Path.{sym, _∙_}
-use Rattle.rules.proofs.Refused.{short-words, rules-kept, list-broken, lists-disagree}
+use Rattle.rules.proofs.Numbers.{short-words, rules-kept, list-broken, lists-disagree}
 use borrow.Author.Needs.{needs}
 use Rattle.rules.proofs.check.Statement.{statement}
 use Rattle.rules.proofs.check.Tie as tie

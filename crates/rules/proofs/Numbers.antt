@@ -1,7 +1,7 @@
 -- Every call goes by the number of the test.
-use Prim.Native.Nat.{ℕ, suc, _≤_, _<_}
+use Prim.Native.Nat.{ℕ, zero, suc, _≤_, _<_}
 use native.Mathlib.Omega.{arith}
-use mathlib.Core.Path.{_≡_, refl}
+use mathlib.Core.Path.{_≡_, refl, sym, ap, _∙_}
 use mathlib.Core.Bool.{Bool, true, false, _||_}
 use mathlib.Core.List.{List}
 use lib.ListN.{length}
@@ -9,9 +9,9 @@ use lib.Dec.{ltb}
 use borrow.Author.Tests.{ltb-false, lt-ltb, le-ltb}
 use Rattle.memory_structs.specs.Choice.{if_then_else_}
 use Rattle.model.specs.Store.{load}
-use Rattle.model.specs.Calls.{Call, answer, shortBuffer, unchanged, stored, keepsRules, call}
+use Rattle.model.specs.Calls.{Call, Outcome, Gives, answer, shortBuffer, unchanged, stored, keepsRules, call}
 use Rattle.model.specs.declared.FrameAllocator.{FrameAllocator}
-use Rattle.rules.specs.Check.{checked, eachKeeps, listsAgree}
+use Rattle.rules.specs.Check.{checked, refusedWith, eachKeeps, listsAgree}
 use Rattle.rules.proofs.Split.{in-order}
 
 -- the number, test by test
@@ -76,3 +76,15 @@ module _ (c : Call) (a : FrameAllocator) (ws : List ℕ) where
       go true y p = absurd (omega arith)
       go false true p = refl
       go false false p = absurd (omega arith)
+
+-- in code: the number that is not 0 refuses the call, and nothing is written
+pub gives-refused : (c : Call) (a : FrameAllocator) (ws : List ℕ) → shortBuffer c ≡ false → (n : ℕ) → n ≡ checked a ws → (n ≡ 0 → ⊥) → Gives c a ws (refusedWith n a) ws
+unfolding unchanged
+gives-refused c a ws e zero p q = absurd (q refl)
+gives-refused c a ws e (suc n) p q =
+    let k : call c a ws ≡ unchanged (suc n) a ws = refused-call c a ws e n (sym p) ∙ ap (λ (m : ℕ). unchanged m a ws) (sym p) in
+    record {
+      answers = sym (ap (λ (o : Outcome). o .answer) k);
+      records = sym (ap (λ (o : Outcome). o .allocator) k);
+      words = sym (ap (λ (o : Outcome). o .words) k);
+    }
