@@ -13,7 +13,7 @@ use Rattle.memory_structs.specs.declared.range.FrameRange.{FrameRange}
 use Rattle.early.specs.declared.Wanted.{Wanted}
 use Rattle.early.specs.declared.Wanted.the-variants.{Large, Holding}
 
--- 32 slots, and nothing that the slots do not show
+-- 32 slots, and an unused one holds [1,0]
 pub record IsEarly (l : EarlyList) : Type 0 where
   pub size : length (slotsOf l) ≡ 32
   pub plain : earlyOf (slotsOf l) ≡ l

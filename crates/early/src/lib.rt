@@ -45,13 +45,14 @@ pub fn fill(mut l: EarlyList, i: usize, start: u64, end: u64) -> EarlyList
 }
 
 // The slot at i is emptied.
-pub fn empty(mut l: EarlyList, i: usize) -> EarlyList
+pub fn empty_slot(mut l: EarlyList, i: usize) -> EarlyList
     requires { ⌜ IsEarly l ⌝ }
     requires { ⌜ i < 32 ⌝ }
     ensures { λ r. ⌜ r ≡ earlyOf (remove false i 1 (slotsOf l)) ⌝ }
 {
-    l.starts[i] = 1;
-    l.ends[i] = 0;
+    let empty = FrameRange::EMPTY;
+    l.starts[i] = empty.start;
+    l.ends[i] = empty.end;
     l.used[i] = false;
     l
 }
@@ -87,7 +88,7 @@ pub fn count(l: EarlyList) -> usize
 pub enum Wanted {
     // A chunk with so many frames or more.
     Large(u64),
-    // A chunk that has every frame of the range.
+    // A chunk that has every frame of the range, which has one at least.
     Holding(FrameRange),
 }
 

@@ -28,7 +28,7 @@ pub fn is_idle(l: EarlyList) -> bool
 }
 
 // In early form: an unused slot holds [1,0], and the entries are non-empty, at or below the top, and disjoint.
-pub fn is_tidy(l: EarlyList) -> bool
+pub fn is_early_list(l: EarlyList) -> bool
     ensures { λ r. ⌜ r ≡ (emptied (l .starts) (l .ends) (l .used) && tidy false (slotsOf l)) ⌝ }
 {
     let mut i = 0;
@@ -41,7 +41,7 @@ pub fn is_tidy(l: EarlyList) -> bool
     true
 }
 
-// What `is_tidy` says, of the slot at i; whether its entry meets another is asked of those after it alone.
+// What `is_early_list` says, of the slot at i; whether its entry meets another is asked of those after it alone.
 fn is_tidy_slot<'a>(
     starts: &'a [u64; 32],
     ends: &'a [u64; 32],
@@ -70,7 +70,8 @@ fn is_tidy_slot<'a>(
 fn is_empty_constant(start: u64, end: u64) -> bool
     ensures { λ r. ⌜ r ≡ (eqb start 1 && eqb end 0) ⌝ }
 {
-    start == 1 && end == 0
+    let empty = FrameRange::EMPTY;
+    start == empty.start && end == empty.end
 }
 
 // Whether each chunk lies in the union of the regions.

@@ -70,3 +70,9 @@ met-sorted r l ws h e t q found =
 
 pub met-early : (r : FrameRange) (l : OneList) (ws : List ℕ) → l .sorted ≡ false → anyOf (meets r) (entries (slotsOf (l .early))) ≡ anyOf (meets r) (entries (slotsIn l ws))
 met-early r l ws e = sym (at-early (λ b s. anyOf (meets r) (entries s)) l ws e)
+
+-- an empty range has no frame in common with any
+pub none-met : (r : FrameRange) (rs : List FrameRange) → r .end < r .start → false ≡ anyOf (meets r) rs
+unfolding anyOf
+none-met r [] h = refl
+none-met r (x ∷ rs) h = rw (lt-leb (max (r .start) (x .start)) (min (r .end) (x .end)) (omega arith)) (none-met r rs h)

@@ -71,9 +71,11 @@ pub fn entry(l: OneList, t: &[u64], i: usize) -> FrameRange
 pub fn meets(l: OneList, t: &[u64], start: u64, end: u64) -> bool
     requires { ⌜ IsList l (now t) ⌝ }
     requires { ⌜ tidy (l .sorted) (slotsIn l (now t)) ≡ true ⌝ }
-    requires { ⌜ start ≤ end ⌝ }
     ensures { λ r. ⌜ r ≡ anyOf (range.meets (range.range start end)) (entries (slotsIn l (now (t .entry)))) ⌝ }
 {
+    if end < start {
+        return false;
+    }
     if l.sorted {
         // Only the highest entry that starts at or below the end can meet it.
         return match tables::highest_at_or_below(t, l.len, end) {
@@ -122,7 +124,7 @@ pub fn remove(mut l: OneList, t: &mut [u64], i: usize, k: usize) -> OneList
         l.len -= k;
         return l;
     }
-    l.early = early::empty(l.early, i);
+    l.early = early::empty_slot(l.early, i);
     l
 }
 

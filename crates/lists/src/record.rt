@@ -6,6 +6,7 @@ ghost use Rattle.model.specs.Store.{earlyOf};
 ghost use Rattle.model.specs.Calls.{freshRecord};
 ghost use Rattle.lists.specs.Record.{generalFree, reservedFree, generalRegions, reservedRegions, recordFrom};
 use crate::OneList;
+use memory_structs::FrameRange;
 use model::EarlyList;
 use model::FrameAllocator;
 
@@ -13,8 +14,9 @@ use model::FrameAllocator;
 pub fn unused_slots() -> EarlyList
     ensures { λ r. ⌜ r ≡ earlyOf (replicate 32 unused) ⌝ }
 {
-    let starts: [u64; 32] = [1; 32];
-    let ends: [u64; 32] = [0; 32];
+    let empty = FrameRange::EMPTY;
+    let starts = [empty.start; 32];
+    let ends = [empty.end; 32];
     let used = [false; 32];
     EarlyList { starts, ends, used }
 }

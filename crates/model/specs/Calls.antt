@@ -22,7 +22,7 @@ use Rattle.model.specs.declared.Kind.{Kind}
 use Rattle.model.specs.declared.FrameAllocator.{FrameAllocator}
 use Rattle.model.specs.declared.Called.{Called}
 
--- demand 3: "boots, requests by count or address, in frames or bytes, general-only requests, returns, sorts, kinds, free totals, held
+-- demand 3, in the asker's words: "boots, requests by count or address, in frames or bytes, general-only requests, returns, sorts, kinds, free totals, held
 -- lists". The held list's number is the length of its lent buffer, in words.
 pub data Call : Type 0 where
   bootCall : List Area → Call
@@ -89,12 +89,12 @@ pub record Outcome : Type 0 where
 unfoldable pub unchanged : ℕ → FrameAllocator → List ℕ → Outcome
 unchanged n a ws = record { answer = record { number = n; range = empty; frame = 0; count = 0 }; allocator = a; words = ws }
 
--- what the lists have it, stored. A refusal and a question leave the lists, and so the record and every word, as they were:
+-- the result on lists, stored. A refusal and a question leave the lists, and so the record and every word, as they were:
 -- `refused-unchanged` and `question-unchanged` (proofs/Unchanged).
 unfoldable pub stored : Result → List ℕ → Outcome
 stored r ws = record { answer = r .answer; allocator = recordOf (r .lists); words = wordsOf (r .lists) ws }
 
--- 11: "the list rules below are broken"
+-- 11: "the list rules below are broken", of a workspace that is long enough (3 comes first)
 unfoldable pub keepsRules : FrameAllocator → List ℕ → Bool
 keepsRules a ws = storeRules a ws && rules (load a ws)
 

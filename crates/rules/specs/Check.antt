@@ -15,7 +15,8 @@ use Rattle.model.specs.declared.EarlyList.{EarlyList}
 use Rattle.model.specs.declared.FrameAllocator.{FrameAllocator}
 
 -- 3: "workspace below 4096 words"; 11: "the list rules below are broken"; else 0. "Order: 3, 11".
--- `refused-call` and `accepted-call` (proofs/Numbers) say that every call goes by this number.
+-- A call whose buffer, if it has one, is long enough goes by this number: `refused-call` and `accepted-call` (proofs/Numbers). The held
+-- list's short buffer is 3 before 11, whatever the record: `short-call`.
 unfoldable pub checked : FrameAllocator → List ℕ → ℕ
 checked a ws = if ltb (length ws) 4096 then 3 else if keepsRules a ws then 0 else 11
 

@@ -1,4 +1,4 @@
-// The test that comes before every call: document 01's refusals 3 and 11. It reads the record and the workspace, and writes neither.
+// The test before every call: document 01's refusal 11, and 3 for the workspace. It reads the record and the words, and writes neither.
 ghost use mathlib.Core.Path.{_≡_};
 ghost use mathlib.Core.Bool.{true, false};
 ghost use Prim.Native.Nat.{_≤_};
@@ -19,10 +19,8 @@ pub fn check(a: FrameAllocator, words: &[u64]) -> u64
     if words.len() < 4096 {
         return 3;
     }
-    if each_keeps(a, words) {
-        if lists_agree(a, words) {
-            return 0;
-        }
+    if each_keeps(a, words) && lists_agree(a, words) {
+        return 0;
     }
     11
 }
@@ -49,23 +47,23 @@ fn each_keeps(a: FrameAllocator, words: &[u64]) -> bool
     ensures { λ r. ⌜ r ≡ eachKeeps a (now (words .entry)) ⌝ }
 {
     let t = &words[0..1024];
-    if !is_list(a.sorted, a.general_free, a.general_free_len, t) {
+    if !keeps_rules(a.sorted, a.general_free, a.general_free_len, t) {
         return false;
     }
     let t = &words[1024..2048];
-    if !is_list(a.sorted, a.reserved_free, a.reserved_free_len, t) {
+    if !keeps_rules(a.sorted, a.reserved_free, a.reserved_free_len, t) {
         return false;
     }
     let t = &words[2048..3072];
-    if !is_list(a.sorted, a.general_regions, a.general_regions_len, t) {
+    if !keeps_rules(a.sorted, a.general_regions, a.general_regions_len, t) {
         return false;
     }
     let t = &words[3072..4096];
-    is_list(a.sorted, a.reserved_regions, a.reserved_regions_len, t)
+    keeps_rules(a.sorted, a.reserved_regions, a.reserved_regions_len, t)
 }
 
 // One list, in its form: "the record keeps each table's length, 0 in early form"; "in sorted form every early slot is unused".
-fn is_list(sorted: bool, early: EarlyList, len: usize, t: &[u64]) -> bool
+fn keeps_rules(sorted: bool, early: EarlyList, len: usize, t: &[u64]) -> bool
     requires { ⌜ length (now t) ≡ 1024 ⌝ }
     ensures { λ r. ⌜ r ≡ keepsIn sorted early len (now (t .entry)) ⌝ }
 {
@@ -76,7 +74,7 @@ fn is_list(sorted: bool, early: EarlyList, len: usize, t: &[u64]) -> bool
         return false;
     }
     if len == 0 {
-        return early_rules::is_tidy(early);
+        return early_rules::is_early_list(early);
     }
     false
 }

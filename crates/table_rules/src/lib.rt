@@ -7,14 +7,14 @@ ghost use Rattle.memory_structs.specs.Range as range;
 ghost use Rattle.model.specs.Lists.{entries, anyOf, allOf, inUnion};
 ghost use Rattle.model.specs.Rules.{tidy};
 ghost use Rattle.model.specs.Store.{tableSlots};
-ghost use Rattle.table_rules.specs.Table.{isTable};
+ghost use Rattle.table_rules.specs.Table.{keepsTable};
 use memory_structs::FrameRange;
 use memory_structs::highest;
 
 // Whether the part is a table of so many pairs that keeps the rules for one list: "at most 512 entries, unused words 0".
 pub fn is_table(t: &[u64], len: usize) -> bool
     requires { ⌜ length (now t) ≡ 1024 ⌝ }
-    ensures { λ r. ⌜ r ≡ isTable len (now (t .entry)) ⌝ }
+    ensures { λ r. ⌜ r ≡ keepsTable len (now (t .entry)) ⌝ }
 {
     if 512 < len {
         return false;
@@ -38,10 +38,8 @@ fn is_tidy(t: &[u64], len: usize) -> bool
         if t[2 * i + 1] < t[2 * i] {
             return false;
         }
-        if 0 < i {
-            if t[2 * i] <= t[2 * i - 1] {
-                return false;
-            }
+        if 0 < i && t[2 * i] <= t[2 * i - 1] {
+            return false;
         }
         i += 1;
     }
@@ -50,18 +48,18 @@ fn is_tidy(t: &[u64], len: usize) -> bool
 }
 
 // Whether every chunk, a pair of its table, lies in the union of the regions, some of which may touch.
-pub fn covers_all(regions: &[u64], m: usize, chunks: &[u64], n: usize) -> bool
-    requires { ⌜ (2 * m ≤ length (now regions)) × (2 * n ≤ length (now chunks)) ⌝ }
-    requires { ⌜ tidy true (tableSlots m (now regions)) ≡ true ⌝ }
-    requires { ⌜ tidy true (tableSlots n (now chunks)) ≡ true ⌝ }
-    ensures { λ r. ⌜ r ≡ allOf (inUnion (entries (tableSlots m (now (regions .entry))))) (entries (tableSlots n (now (chunks .entry)))) ⌝ }
+pub fn covers_all(regions: &[u64], regions_len: usize, chunks: &[u64], chunks_len: usize) -> bool
+    requires { ⌜ (2 * «regions_len» ≤ length (now regions)) × (2 * «chunks_len» ≤ length (now chunks)) ⌝ }
+    requires { ⌜ tidy true (tableSlots «regions_len» (now regions)) ≡ true ⌝ }
+    requires { ⌜ tidy true (tableSlots «chunks_len» (now chunks)) ≡ true ⌝ }
+    ensures { λ r. ⌜ r ≡ allOf (inUnion (entries (tableSlots «regions_len» (now (regions .entry))))) (entries (tableSlots «chunks_len» (now (chunks .entry)))) ⌝ }
 {
     let mut i = 0;
     let mut j = 0;
-    // The chunk's frames below this one have been found in regions.
+    // Every frame of chunk i below `from` is in a region.
     let mut from = 0;
-    while i < n {
-        if m <= j {
+    while i < chunks_len {
+        if regions_len <= j {
             return false;
         }
         let first = highest(from, chunks[2 * i]);
@@ -83,16 +81,16 @@ pub fn covers_all(regions: &[u64], m: usize, chunks: &[u64], n: usize) -> bool
 }
 
 // Whether a pair of one table has a frame of a pair of the other.
-pub fn meet(t: &[u64], n: usize, u: &[u64], m: usize) -> bool
-    requires { ⌜ (2 * n ≤ length (now t)) × (2 * m ≤ length (now u)) ⌝ }
-    requires { ⌜ tidy true (tableSlots n (now t)) ≡ true ⌝ }
-    requires { ⌜ tidy true (tableSlots m (now u)) ≡ true ⌝ }
-    ensures { λ r. ⌜ r ≡ anyOf (λ r. anyOf (range.meets r) (entries (tableSlots m (now (u .entry))))) (entries (tableSlots n (now (t .entry)))) ⌝ }
+pub fn meet(t: &[u64], t_len: usize, u: &[u64], u_len: usize) -> bool
+    requires { ⌜ (2 * «t_len» ≤ length (now t)) × (2 * «u_len» ≤ length (now u)) ⌝ }
+    requires { ⌜ tidy true (tableSlots «t_len» (now t)) ≡ true ⌝ }
+    requires { ⌜ tidy true (tableSlots «u_len» (now u)) ≡ true ⌝ }
+    ensures { λ r. ⌜ r ≡ anyOf (λ r. anyOf (range.meets r) (entries (tableSlots «u_len» (now (u .entry))))) (entries (tableSlots «t_len» (now (t .entry)))) ⌝ }
 {
     let mut i = 0;
     let mut j = 0;
-    while i < n {
-        if m <= j {
+    while i < t_len {
+        if u_len <= j {
             return false;
         }
         if t[2 * i + 1] < u[2 * j] {

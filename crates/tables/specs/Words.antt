@@ -1,12 +1,11 @@
 -- One sorted table: 512 pairs of words, start and end, in a part of 1024 words; the words after the last pair are 0.
-use Prim.Native.Nat.{ℕ, suc, _+_, _-_, _*_, _≤_}
+use Prim.Native.Nat.{ℕ, suc, _-_, _*_, _≤_}
 use mathlib.Core.Path.{_≡_}
 use mathlib.Core.List.{List, [], _∷_, _++_}
 use lib.ListN.{length, take, drop, replicate}
 use lib.Seq.{paste}
 use lib.Dec.{ltb}
 use Rattle.memory_structs.specs.Choice.{if_then_else_}
-use Rattle.memory_structs.specs.Range.{size}
 use Rattle.model.specs.Lists.{Slot, unused, used, Place, nowhere, at}
 use Rattle.memory_structs.specs.declared.range.FrameRange.{FrameRange}
 use Rattle.tables.specs.declared.Found.{Found}
@@ -33,6 +32,6 @@ abbrev pub placeOf : Found → Place
 placeOf Nowhere = nowhere
 placeOf (At i) = at i
 
--- d with its n words from index at on replaced by the first n of s
+-- d with its n words from index i on replaced by the first n of s
 unfoldable pub pasted : List ℕ → ℕ → List ℕ → ℕ → List ℕ
 pasted d i s n = paste d i s n

@@ -38,16 +38,16 @@ returns c =
     (sym (length-removed (a .i) (a .k) _ (omega (arith, in-table k, table-length (a .l .len) (a .t .now))) ∙ ap (λ (n : ℕ). n - a .k) (table-length (a .l .len) (a .t .now))))
     (c .before .before .before .remove-at .ensures)
 
-empty-requires : tie.Need-empty-requires
-empty-requires c κs = let s = c .before .before in (as-early (s .args .l) (s .args .t .now) (s .pre .0) (c .if1 .left), in-slots c)
+empty-slot-requires : tie.Need-empty-slot-requires
+empty-slot-requires c κs = let s = c .before .before in (as-early (s .args .l) (s .args .t .now) (s .pre .0) (c .if1 .left), in-slots c)
 
 returns-2 : tie.Need-returns-2
 returns-2 c =
     let s = c .before .before .before in
     let a = s .args in
     let e = c .before .if1 .left in
-    early-after (λ b x. remove b (a .i) (a .k) x) (a .l) (a .t .now) (s .pre .0) e (c .empty .result)
-    (c .empty .ensures ∙ sym (ap (λ (n : ℕ). earlyOf (remove false (a .i) n (slotsOf (a .l .early)))) (s .pre .1 .1 e)))
+    early-after (λ b x. remove b (a .i) (a .k) x) (a .l) (a .t .now) (s .pre .0) e (c .empty-slot .result)
+    (c .empty-slot .ensures ∙ sym (ap (λ (n : ℕ). earlyOf (remove false (a .i) n (slotsOf (a .l .early)))) (s .pre .1 .1 e)))
 
 pub remove-spec : {M : Type 1} → statement M
-remove-spec = tie.close (tie.spec remove-at-requires sub-l same-length returns empty-requires returns-2)
+remove-spec = tie.close (tie.spec remove-at-requires sub-l same-length returns empty-slot-requires returns-2)

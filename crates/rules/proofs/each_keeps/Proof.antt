@@ -15,11 +15,11 @@ part-t-start c = search needs
 part-t-end : tie.Need-part-t-end
 part-t-end c = search needs
 
-is-list-requires : tie.Need-is-list-requires
-is-list-requires c κs = search needs
+keeps-rules-requires : tie.Need-keeps-rules-requires
+keeps-rules-requires c κs = search needs
 
 returns : tie.Need-returns
-returns c = general-free-broken (c .before .before .before .before .args .a) (c .before .before .before .before .args .words .now) (sym (c .before .is-list .ensures) ∙ not-true _ (c .if1 .taken))
+returns c = general-free-broken (c .before .before .before .before .args .a) (c .before .before .before .before .args .words .now) (sym (c .before .keeps-rules .ensures) ∙ not-true _ (c .if1 .taken))
 
 sub-t-2 : tie.Need-sub-t-2
 sub-t-2 c = search needs
@@ -30,13 +30,13 @@ part-t-start-2 c = search needs
 part-t-end-2 : tie.Need-part-t-end-2
 part-t-end-2 c = search needs
 
-is-list-requires-2 : tie.Need-is-list-requires-2
-is-list-requires-2 c κs = search needs
+keeps-rules-requires-2 : tie.Need-keeps-rules-requires-2
+keeps-rules-requires-2 c κs = search needs
 
 returns-2 : tie.Need-returns-2
 returns-2 c =
-    reserved-free-broken (c .before .before .before .before .before .before .before .args .a) (c .before .before .before .before .before .before .before .args .words .now) (sym (c .before .before .before .before .is-list .ensures) ∙ not-false _ (c .before .before .before .if1 .left))
-    (sym (c .before .is-list2 .ensures) ∙ not-true _ (c .if2 .taken))
+    reserved-free-broken (c .before .before .before .before .before .before .before .args .a) (c .before .before .before .before .before .before .before .args .words .now) (sym (c .before .before .before .before .keeps-rules .ensures) ∙ not-false _ (c .before .before .before .if1 .left))
+    (sym (c .before .keeps-rules2 .ensures) ∙ not-true _ (c .if2 .taken))
 
 sub-t-3 : tie.Need-sub-t-3
 sub-t-3 c = search needs
@@ -47,14 +47,14 @@ part-t-start-3 c = search needs
 part-t-end-3 : tie.Need-part-t-end-3
 part-t-end-3 c = search needs
 
-is-list-requires-3 : tie.Need-is-list-requires-3
-is-list-requires-3 c κs = search needs
+keeps-rules-requires-3 : tie.Need-keeps-rules-requires-3
+keeps-rules-requires-3 c κs = search needs
 
 returns-3 : tie.Need-returns-3
 returns-3 c =
-    general-regions-broken (c .before .before .before .before .before .before .before .before .before .before .args .a) (c .before .before .before .before .before .before .before .before .before .before .args .words .now) (sym (c .before .before .before .before .before .before .before .is-list .ensures) ∙ not-false _ (c .before .before .before .before .before .before .if1 .left))
-    (sym (c .before .before .before .before .is-list2 .ensures) ∙ not-false _ (c .before .before .before .if2 .left))
-    (sym (c .before .is-list3 .ensures) ∙ not-true _ (c .if3 .taken))
+    general-regions-broken (c .before .before .before .before .before .before .before .before .before .before .args .a) (c .before .before .before .before .before .before .before .before .before .before .args .words .now) (sym (c .before .before .before .before .before .before .before .keeps-rules .ensures) ∙ not-false _ (c .before .before .before .before .before .before .if1 .left))
+    (sym (c .before .before .before .before .keeps-rules2 .ensures) ∙ not-false _ (c .before .before .before .if2 .left))
+    (sym (c .before .keeps-rules3 .ensures) ∙ not-true _ (c .if3 .taken))
 
 sub-t-4 : tie.Need-sub-t-4
 sub-t-4 c = search needs
@@ -65,14 +65,14 @@ part-t-start-4 c = search needs
 part-t-end-4 : tie.Need-part-t-end-4
 part-t-end-4 c = search needs
 
-is-list-requires-4 : tie.Need-is-list-requires-4
-is-list-requires-4 c κs = search needs
+keeps-rules-requires-4 : tie.Need-keeps-rules-requires-4
+keeps-rules-requires-4 c κs = search needs
 
 returns-4 : tie.Need-returns-4
 returns-4 c =
-    c .is-list4 .ensures ∙ reserved-regions-decide (c .before .before .before .before .before .before .before .before .before .before .before .before .args .a) (c .before .before .before .before .before .before .before .before .before .before .before .before .args .words .now) (sym (c .before .before .before .before .before .before .before .before .before .is-list .ensures) ∙ not-false _ (c .before .before .before .before .before .before .before .before .if1 .left))
-    (sym (c .before .before .before .before .before .before .is-list2 .ensures) ∙ not-false _ (c .before .before .before .before .before .if2 .left))
-    (sym (c .before .before .before .is-list3 .ensures) ∙ not-false _ (c .before .before .if3 .left))
+    c .keeps-rules4 .ensures ∙ reserved-regions-decide (c .before .before .before .before .before .before .before .before .before .before .before .before .args .a) (c .before .before .before .before .before .before .before .before .before .before .before .before .args .words .now) (sym (c .before .before .before .before .before .before .before .before .before .keeps-rules .ensures) ∙ not-false _ (c .before .before .before .before .before .before .before .before .if1 .left))
+    (sym (c .before .before .before .before .before .before .keeps-rules2 .ensures) ∙ not-false _ (c .before .before .before .before .before .if2 .left))
+    (sym (c .before .before .before .keeps-rules3 .ensures) ∙ not-false _ (c .before .before .if3 .left))
 
 pub each-keeps-spec : {M : Type 1} → statement M
 each-keeps-spec =
@@ -81,20 +81,20 @@ each-keeps-spec =
     sub-t
     part-t-start
     part-t-end
-    is-list-requires
+    keeps-rules-requires
     returns
     sub-t-2
     part-t-start-2
     part-t-end-2
-    is-list-requires-2
+    keeps-rules-requires-2
     returns-2
     sub-t-3
     part-t-start-3
     part-t-end-3
-    is-list-requires-3
+    keeps-rules-requires-3
     returns-3
     sub-t-4
     part-t-start-4
     part-t-end-4
-    is-list-requires-4
+    keeps-rules-requires-4
     returns-4)

@@ -1,5 +1,6 @@
 -- `is_tidy`: the pairs passed have frames, each above the one before it.
 use native.Mathlib.Omega.{arith}
+use borrow.Author.Tests.{leb-true, leb-false}
 use mathlib.Core.Path.{_≡_, sym, subst}
 use mathlib.Core.Logic.{⊎-elim}
 use Prim.Native.Nat.{ℕ, _-_, _≤_}
@@ -71,7 +72,7 @@ returns-3 : tie.Need-returns-3 Inv-loop μ-loop
 returns-3 c =
     let l = c .before .before .before .before .before .before .before .before in
     let a = l .before .before .args in
-    sym (not-above (a .len) (a .t .now) (l .loop .i) (c .before .before .before .if3 .taken) (omega arith) (c .if4 .taken))
+    sym (not-above (a .len) (a .t .now) (l .loop .i) (c .before .before .before .if3 .taken) (omega arith) (leb-true _ _ (c .if4 .taken)))
 
 add-i : tie.Need-add-i Inv-loop μ-loop
 add-i c = omega arith
@@ -85,7 +86,7 @@ loop-again c =
     let a = l .before .before .args in (
       omega arith,
       order-more (l .loop .i) (a .t .now) (l .loop .inv .1) (c .before .if2 .left)
-          (λ h. ⊎-elim (λ w. w .3 .left) (λ w. absurd (omega (arith, w .left))) (c .if3 .came)),
+          (λ h. ⊎-elim (λ w. leb-false _ _ (w .3 .left)) (λ w. absurd (omega (arith, w .left))) (c .if3 .came)),
     )
 
 mul-result : tie.Need-mul-result Inv-loop μ-loop

@@ -1,4 +1,4 @@
--- `early_rules::is_tidy`: at each turn the first i slots keep the rules.
+-- `early_rules::is_early_list`: at each turn the first i slots keep the rules.
 use mathlib.Core.Path.{_≡_, sym, _∙_}
 use mathlib.Core.Bool.{false, _&&_}
 use Prim.Native.Nat.{_-_}
@@ -9,8 +9,8 @@ use Rattle.early.proofs.Slots.{array-sizes, slots-size}
 use Rattle.early_rules.specs.Slot.{tidySlot}
 use Rattle.early_rules.proofs.Slotwise.{eachFrom, tidy-slots, each-fails, each-later, each-done}
 use native.Mathlib.Omega.{arith}
-use Rattle.early_rules.proofs.is_tidy.Statement.{statement}
-use Rattle.early_rules.proofs.is_tidy.Tie as tie
+use Rattle.early_rules.proofs.is_early_list.Statement.{statement}
+use Rattle.early_rules.proofs.is_early_list.Tie as tie
 
 abbrev Inv-loop : tie.InvT-loop
 Inv-loop l i₀ i = (emptied (l .starts) (l .ends) (l .used) && tidy false (slotsOf l)) ≡ eachFrom tidySlot i l
@@ -51,8 +51,8 @@ returns-2 c =
     let s = c .before .before in
     sym (c .before .loop .inv ∙ each-done tidySlot (s .args .t1) (c .before .loop .i) (array-sizes (s .args .t1) (s .good .0)) (omega arith))
 
-pub is-tidy-spec : {M : Type 1} → statement M
-is-tidy-spec =
+pub is-early-list-spec : {M : Type 1} → statement M
+is-early-list-spec =
     tie.close
     (tie.spec
     Inv-loop

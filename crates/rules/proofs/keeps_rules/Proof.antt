@@ -1,10 +1,10 @@
--- `is_list`: what each form asks of the slots, the length and the words.
+-- `keeps_rules`: what each form asks of the slots, the length and the words.
 use mathlib.Core.Path.{_≡_, sym, _∙_}
 use lib.ListN.{length}
 use Rattle.rules.proofs.Split.{slot-used, slots-idle, length-zero, length-not-zero}
 use borrow.Author.Needs.{needs}
-use Rattle.rules.proofs.is_list.Statement.{statement}
-use Rattle.rules.proofs.is_list.Tie as tie
+use Rattle.rules.proofs.keeps_rules.Statement.{statement}
+use Rattle.rules.proofs.keeps_rules.Tie as tie
 
 is-idle-requires : tie.Need-is-idle-requires
 is-idle-requires c κs = search needs
@@ -23,28 +23,28 @@ returns-2 c =
     let a = c .before .before .before .before .args in
     slot-used (a .sorted) (a .early) (a .len) (a .t .now) (c .before .before .if1 .taken) (sym (c .before .is-idle .ensures) ∙ c .if2 .left)
 
-is-tidy-requires : tie.Need-is-tidy-requires
-is-tidy-requires c κs = search needs
+is-early-list-requires : tie.Need-is-early-list-requires
+is-early-list-requires c κs = search needs
 
 returns-3 : tie.Need-returns-3
 returns-3 c =
     let a = c .before .before .before .before .args in
     let full : length (a .early .starts) ≡ 32 = search needs in
-    c .is-tidy .ensures ∙ length-zero (a .sorted) (a .early) (a .len) (a .t .now) (c .before .before .if1 .left) full (c .before .if3 .taken)
+    c .is-early-list .ensures ∙ length-zero (a .sorted) (a .early) (a .len) (a .t .now) (c .before .before .if1 .left) full (c .before .if3 .taken)
 
 returns-4 : tie.Need-returns-4
 returns-4 c =
     let a = c .before .before .before .args in
     length-not-zero (a .sorted) (a .early) (a .len) (a .t .now) (c .before .if1 .left) (c .if3 .left)
 
-pub is-list-spec : {M : Type 1} → statement M
-is-list-spec =
+pub keeps-rules-spec : {M : Type 1} → statement M
+keeps-rules-spec =
     tie.close
     (tie.spec
     is-idle-requires
     is-table-requires
     returns
     returns-2
-    is-tidy-requires
+    is-early-list-requires
     returns-3
     returns-4)
