@@ -1,0 +1,79 @@
+-- Ranges in arrays: what a push does to the list that they store, and what is read back.
+use Prim.Native.Nat.{ℕ, zero, suc, _+_, _≤_, _<_, min}
+use native.Mathlib.Omega.{arith}
+use mathlib.Core.Path.{_≡_, refl, sym, ap, _∙_}
+use mathlib.Core.List.{List, [], _∷_, _++_, map}
+use lib.ListN.{length, set, length-map, length-append}
+use borrow.Author.Tests.{lt-ltb, le-ltb}
+use Rattle.memory_structs.specs.Range.{range}
+use Rattle.memory_structs.specs.declared.range.FrameRange.{FrameRange}
+use Rattle.model.specs.Carving.{piece}
+use Rattle.carving.specs.declared.RangeList.{RangeList}
+use Rattle.carving.specs.Ranges.{padded, listed, Appended}
+
+set-padded : (n : ℕ) (xs : List ℕ) (v : ℕ) → length xs < n → set (padded n xs) (length xs) v ≡ padded n (xs ++ v ∷ [])
+unfolding padded
+set-padded zero xs v h = absurd (omega arith)
+set-padded (suc n) [] v h = refl
+set-padded (suc n) (x ∷ xs) v h = ap (λ (l : List ℕ). x ∷ l) (set-padded n xs v (omega arith))
+
+padded-full : (n : ℕ) (xs ys : List ℕ) → n ≤ length xs → padded n (xs ++ ys) ≡ padded n xs
+unfolding padded
+padded-full zero xs ys h = refl
+padded-full (suc n) [] ys h = absurd (omega arith)
+padded-full (suc n) (x ∷ xs) ys h = ap (λ (l : List ℕ). x ∷ l) (padded-full n xs ys (omega arith))
+
+map-over : (f : FrameRange → ℕ) (rs : List FrameRange) (r : FrameRange) → map f rs ++ f r ∷ [] ≡ map f (rs ++ r ∷ [])
+map-over f [] r = refl
+map-over f (x ∷ rs) r = ap (λ (l : List ℕ). f x ∷ l) (map-over f rs r)
+
+-- one array of a list
+module _ (f : FrameRange → ℕ) (rs : List FrameRange) (r : FrameRange) where
+  stored : length rs < 32 → (n : ℕ) → n ≡ length rs → set (padded 32 (map f rs)) n (f r) ≡ padded 32 (map f (rs ++ r ∷ []))
+  stored h n e =
+      ap (λ (k : ℕ). set (padded 32 (map f rs)) k (f r)) (e ∙ sym (length-map rs f))
+      ∙ set-padded 32 (map f rs) (f r) (omega (arith, length-map rs f)) ∙ ap (padded 32) (map-over f rs r)
+
+  kept : 32 ≤ length rs → padded 32 (map f rs) ≡ padded 32 (map f (rs ++ r ∷ []))
+  kept h = sym (ap (padded 32) (sym (map-over f rs r)) ∙ padded-full 32 (map f rs) (f r ∷ []) (omega (arith, length-map rs f)))
+
+-- the number that a list shows
+count : (l : RangeList) (rs : List FrameRange) → l ≡ listed rs → l .len ≡ min 33 (length rs)
+unfolding listed
+count l rs e = ap (λ (x : RangeList). x .len) e
+
+one-more : (rs : List FrameRange) (r : FrameRange) → length (rs ++ r ∷ []) ≡ length rs + 1
+one-more rs r = length-append rs (r ∷ [])
+
+module _ (l : RangeList) (s e : ℕ) where
+  pub pushed : l .len < 32 → Appended l (range s e ∷ []) (record { starts = set (l .starts) (l .len) s; ends = set (l .ends) (l .len) e; len = l .len + 1 })
+  unfolding listed
+  pushed h rs p =
+      let n : l .len ≡ length rs = omega (arith, count l rs p) in
+      let few : length rs < 32 = omega arith in
+      let a = ap (λ (x : RangeList). set (x .starts) (l .len) s) p ∙ stored (λ r. r .start) rs (range s e) few (l .len) n in
+      let b = ap (λ (x : RangeList). set (x .ends) (l .len) e) p ∙ stored (λ r. r .end) rs (range s e) few (l .len) n in
+      let c : l .len + 1 ≡ min 33 (length (rs ++ range s e ∷ [])) = omega (arith, one-more rs (range s e)) in
+      λ i. record { starts = a i; ends = b i; len = c i }
+
+  pub counted : 32 ≤ l .len → Appended l (range s e ∷ []) (record { starts = l .starts; ends = l .ends; len = 33 })
+  unfolding listed
+  counted h rs p =
+      let many : 32 ≤ length rs = omega (arith, count l rs p) in
+      let a = ap (λ (x : RangeList). x .starts) p ∙ kept (λ r. r .start) rs (range s e) many in
+      let b = ap (λ (x : RangeList). x .ends) p ∙ kept (λ r. r .end) rs (range s e) many in
+      let c : 33 ≡ min 33 (length (rs ++ range s e ∷ [])) = omega (arith, one-more rs (range s e)) in
+      λ i. record { starts = a i; ends = b i; len = c i }
+
+append-none : (xs : List FrameRange) → xs ≡ xs ++ []
+append-none [] = refl
+append-none (x ∷ xs) = ap (λ (l : List FrameRange). x ∷ l) (append-none xs)
+
+-- a piece, where it has a frame
+pub no-piece : (l : RangeList) (s e : ℕ) → e < s → Appended l (piece s e) l
+unfolding piece
+no-piece l s e h xs p = p ∙ ap listed (append-none xs) ∙ rw (lt-ltb e s h)
+
+pub one-piece : (l r : RangeList) (s e : ℕ) → s ≤ e → Appended l (range s e ∷ []) r → Appended l (piece s e) r
+unfolding piece
+one-piece l r s e h a xs p = a xs p ∙ rw (le-ltb e s h)
