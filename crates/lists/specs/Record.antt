@@ -1,4 +1,9 @@
 -- The record's four lists, taken apart and put together.
+use Prim.Native.Nat.{ℕ}
+use mathlib.Core.Path.{_≡_}
+use mathlib.Core.List.{List}
+use Rattle.model.specs.Lists.{Lists}
+use Rattle.model.specs.Store.{recordOf, wordsOf}
 use Rattle.model.specs.declared.FrameAllocator.{FrameAllocator}
 use Rattle.lists.specs.declared.OneList.{OneList}
 
@@ -27,3 +32,8 @@ recordFrom gf rf gr rr = record {
   «general_regions_len» = gr .len;
   «reserved_regions_len» = rr .len;
 }
+
+-- the record and the words store the lists
+pub record AllStored (l : Lists) (before : List ℕ) (a : FrameAllocator) (after : List ℕ) : Type 0 where
+  pub allocator : a ≡ recordOf l
+  pub words : after ≡ wordsOf l before

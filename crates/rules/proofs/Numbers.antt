@@ -8,9 +8,15 @@ use lib.ListN.{length}
 use lib.Dec.{ltb}
 use borrow.Author.Tests.{ltb-false, lt-ltb, le-ltb}
 use Rattle.memory_structs.specs.Choice.{if_then_else_}
-use Rattle.model.specs.Store.{load}
+use Rattle.memory_structs.proofs.Bools.{both-first}
+use Rattle.model.specs.Lists.{Lists}
+use Rattle.model.specs.Rules.{rules}
+use Rattle.model.specs.Store.{load, recordOf, wordsOf, storeRules}
 use Rattle.model.specs.Calls.{Call, Outcome, Gives, answer, shortBuffer, unchanged, stored, keepsRules, call}
+use Rattle.model.specs.declared.Answer.{Answer}
+use Rattle.model.specs.declared.Called.{Called}
 use Rattle.model.specs.declared.FrameAllocator.{FrameAllocator}
+use Rattle.model.proofs.Whole.{tested, record-kept, words-kept}
 use Rattle.rules.specs.Check.{checked, refusedWith, eachKeeps, listsAgree}
 use Rattle.rules.proofs.Split.{in-order}
 
@@ -88,3 +94,25 @@ gives-refused c a ws e (suc n) p q =
       records = sym (ap (λ (o : Outcome). o .allocator) k);
       words = sym (ap (λ (o : Outcome). o .words) k);
     }
+
+-- and 0 lets it go on
+module _ (c : Call) (a : FrameAllocator) (ws : List ℕ) (e : shortBuffer c ≡ false) (z : checked a ws ≡ 0) where
+  pub gives-stored : (called : Called) (after : List ℕ) → called .answer ≡ answer c (load a ws) .answer
+      → called .allocator ≡ recordOf (answer c (load a ws) .lists) → after ≡ wordsOf (answer c (load a ws) .lists) ws → Gives c a ws called after
+  unfolding stored
+  gives-stored called after p q r =
+      let k = accepted-call c a ws e z in
+      record {
+        answers = p ∙ sym (ap (λ (o : Outcome). o .answer) k);
+        records = q ∙ sym (ap (λ (o : Outcome). o .allocator) k);
+        words = r ∙ sym (ap (λ (o : Outcome). o .words) k);
+      }
+
+  -- a call that leaves the lists as they were leaves the record and every word
+  pub gives-unchanged : (x : Answer) → x ≡ answer c (load a ws) .answer → answer c (load a ws) .lists ≡ load a ws → Gives c a ws (record { answer = x; allocator = a }) ws
+  unfolding keepsRules
+  gives-unchanged x p same =
+      let s = checked-sound a ws z in
+      let t = tested a ws (s .long) (both-first (storeRules a ws) (rules (load a ws)) (s .keeps)) in
+      gives-stored (record { answer = x; allocator = a }) ws p
+      (sym (ap recordOf same ∙ record-kept a ws t)) (sym (ap (λ (l : Lists). wordsOf l ws) same ∙ words-kept a ws t))

@@ -10,6 +10,7 @@ use Rattle.model.specs.Lists.{Lists, Slot, entries, anyOf, allOf, inUnion}
 use Rattle.model.specs.Rules.{tidy}
 use Rattle.model.specs.Store.{slotsIn, storedIn, part}
 use Rattle.model.specs.Calls.{keepsRules}
+use Rattle.model.specs.declared.Answer.{Answer}
 use Rattle.model.specs.declared.Called.{Called}
 use Rattle.model.specs.declared.EarlyList.{EarlyList}
 use Rattle.model.specs.declared.FrameAllocator.{FrameAllocator}
@@ -20,10 +21,19 @@ use Rattle.model.specs.declared.FrameAllocator.{FrameAllocator}
 unfoldable pub checked : FrameAllocator → List ℕ → ℕ
 checked a ws = if ltb (length ws) 4096 then 3 else if keepsRules a ws then 0 else 11
 
+-- an answer that names no frames
+abbrev pub withoutFrames : ℕ → ℕ → Answer
+withoutFrames n k = record { number = n; range = empty; frame = 0; count = k }
+
 -- "A refusal returns its number, the range [1,0], and 0 and 0 for frame and count except in 15; record, workspace and buffers keep every
 -- value."
 abbrev pub refusedWith : ℕ → FrameAllocator → Called
-refusedWith n a = record { answer = record { number = n; range = empty; frame = 0; count = 0 }; allocator = a }
+refusedWith n a = record { answer = withoutFrames n 0; allocator = a }
+
+-- "An accepted call returns number 0, the granted range or else [1,0], frame 0, and as count the free total, the number of held runs, the
+-- kind [..], or else 0": where no range is granted
+abbrev pub acceptedWith : ℕ → FrameAllocator → Called
+acceptedWith k a = record { answer = withoutFrames 0 k; allocator = a }
 
 -- The rules again, in the order of the test: each list by itself, then one list beside another. `in-order` (proofs/Split) says that they
 -- are the same.

@@ -5,7 +5,7 @@ ghost use Prim.Native.Nat.{_≤_};
 ghost use lib.ListN.{length};
 ghost use Rattle.model.specs.Rules.{tidy};
 ghost use Rattle.model.specs.Store.{slotsOf, load};
-ghost use Rattle.rules.specs.Check.{checked, refusedWith, keepsIn, eachKeeps, agree, listsAgree};
+ghost use Rattle.rules.specs.Check.{checked, refusedWith, acceptedWith, withoutFrames, keepsIn, eachKeeps, agree, listsAgree};
 use memory_structs::FrameRange;
 use model::Answer;
 use model::Called;
@@ -29,15 +29,33 @@ pub fn check(a: FrameAllocator, words: &[u64]) -> u64
 pub fn refused(a: FrameAllocator, number: u64) -> Called
     ensures { λ r. ⌜ r ≡ refusedWith number a ⌝ }
 {
-    let answer = Answer {
-        number,
-        range: FrameRange::EMPTY,
-        frame: 0,
-        count: 0,
-    };
+    let answer = without_frames(number, 0);
     Called {
         answer,
         allocator: a,
+    }
+}
+
+// "An accepted call returns number 0, [..] or else [1,0], frame 0, and as count [..], or else 0": one that grants no range.
+pub fn accepted(a: FrameAllocator, count: u64) -> Called
+    ensures { λ r. ⌜ r ≡ acceptedWith count a ⌝ }
+{
+    let answer = without_frames(0, count);
+    Called {
+        answer,
+        allocator: a,
+    }
+}
+
+// An answer that names no frames.
+fn without_frames(number: u64, count: u64) -> Answer
+    ensures { λ r. ⌜ r ≡ withoutFrames number count ⌝ }
+{
+    Answer {
+        number,
+        range: FrameRange::EMPTY,
+        frame: 0,
+        count,
     }
 }
 
