@@ -1,15 +1,16 @@
 -- Ranges in arrays: what a push does to the list that they store, and what is read back.
 use Prim.Native.Nat.{ℕ, zero, suc, _+_, _≤_, _<_, min}
 use native.Mathlib.Omega.{arith}
+use native.Mathlib.Numerals.{add-one}
 use mathlib.Core.Path.{_≡_, refl, sym, ap, _∙_}
 use mathlib.Core.List.{List, [], _∷_, _++_, map}
-use lib.ListN.{length, set, length-map, length-append}
+use lib.ListN.{length, set, getD, drop, length-map, length-append}
 use borrow.Author.Tests.{lt-ltb, le-ltb}
 use Rattle.memory_structs.specs.Range.{range}
 use Rattle.memory_structs.specs.declared.range.FrameRange.{FrameRange}
 use Rattle.model.specs.Carving.{piece}
 use Rattle.carving.specs.declared.RangeList.{RangeList}
-use Rattle.carving.specs.Ranges.{padded, listed, Appended}
+use Rattle.carving.specs.Ranges.{padded, listed, pairs, rangesIn, Whole, Appended}
 
 set-padded : (n : ℕ) (xs : List ℕ) (v : ℕ) → length xs < n → set (padded n xs) (length xs) v ≡ padded n (xs ++ v ∷ [])
 unfolding padded
@@ -38,7 +39,7 @@ module _ (f : FrameRange → ℕ) (rs : List FrameRange) (r : FrameRange) where
   kept h = sym (ap (padded 32) (sym (map-over f rs r)) ∙ padded-full 32 (map f rs) (f r ∷ []) (omega (arith, length-map rs f)))
 
 -- the number that a list shows
-count : (l : RangeList) (rs : List FrameRange) → l ≡ listed rs → l .len ≡ min 33 (length rs)
+pub count : (l : RangeList) (rs : List FrameRange) → l ≡ listed rs → l .len ≡ min 33 (length rs)
 unfolding listed
 count l rs e = ap (λ (x : RangeList). x .len) e
 
@@ -77,3 +78,41 @@ no-piece l s e h xs p = p ∙ ap listed (append-none xs) ∙ rw (lt-ltb e s h)
 pub one-piece : (l r : RangeList) (s e : ℕ) → s ≤ e → Appended l (range s e ∷ []) r → Appended l (piece s e) r
 unfolding piece
 one-piece l r s e h a xs p = a xs p ∙ rw (le-ltb e s h)
+
+-- what is read back
+pairs-again : (n k : ℕ) (rs : List FrameRange) → length rs ≡ k → k ≤ n → pairs k (padded n (map (λ r. r .start) rs)) (padded n (map (λ r. r .end) rs)) ≡ rs
+unfolding pairs padded
+pairs-again n zero [] e h = refl
+pairs-again n zero (r ∷ rs) e h = absurd (omega arith)
+pairs-again n (suc k) [] e h = absurd (omega arith)
+pairs-again zero (suc k) (r ∷ rs) e h = absurd (omega arith)
+pairs-again (suc n) (suc k) (r ∷ rs) e h = ap (λ (l : List FrameRange). r ∷ l) (pairs-again n k rs (omega arith) (omega arith))
+
+pub read-back : (rs : List FrameRange) → length rs ≤ 32 → rangesIn (listed rs) ≡ rs
+unfolding rangesIn listed
+read-back rs h = let e : length rs ≡ min 33 (length rs) = omega arith in pairs-again 32 (min 33 (length rs)) rs e (omega arith)
+
+pub listed-whole : (l : RangeList) (rs : List FrameRange) → length rs ≤ 32 → l ≡ listed rs → Whole l
+listed-whole l rs h e = record {
+  few = omega (arith, count l rs e);
+  is = e ∙ ap listed (sym (ap rangesIn e ∙ read-back rs h));
+}
+
+-- of a list that has stored all, `len` is how many
+pub whole-length : (l : RangeList) → Whole l → length (rangesIn l) ≡ l .len
+whole-length l w = omega (arith, count l (rangesIn l) (w .is), w .few)
+
+at-place : (n k : ℕ) (rs : List FrameRange) → k < length rs → k < n
+    → drop k rs ≡ range (getD (padded n (map (λ r. r .start) rs)) k 0) (getD (padded n (map (λ r. r .end) rs)) k 0) ∷ drop (suc k) rs
+unfolding padded
+at-place n k [] h l = absurd (omega arith)
+at-place zero k (r ∷ rs) h l = absurd (omega arith)
+at-place (suc n) zero (r ∷ rs) h l = refl
+at-place (suc n) (suc k) (r ∷ rs) h l = at-place n k rs (omega arith) (omega arith)
+
+-- the range at k, and those after it
+pub range-at : (l : RangeList) → Whole l → (k : ℕ) → k < l .len → drop k (rangesIn l) ≡ range (getD (l .starts) k 0) (getD (l .ends) k 0) ∷ drop (k + 1) (rangesIn l)
+unfolding listed
+range-at l w k h =
+    at-place 32 k (rangesIn l) (omega (arith, whole-length l w)) (omega (arith, w .few))
+    ∙ sym (ap (λ (x : RangeList). range (getD (x .starts) k 0) (getD (x .ends) k 0) ∷ drop (suc k) (rangesIn l)) (w .is)) ∙ rw (add-one k)

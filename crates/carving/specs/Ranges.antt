@@ -31,6 +31,11 @@ pairs (suc n) [] es = []
 unfoldable pub rangesIn : RangeList → List FrameRange
 rangesIn l = pairs (l .len) (l .starts) (l .ends)
 
+-- a list that has stored all of its ranges
+pub record Whole (l : RangeList) : Type 0 where
+  pub few : l .len ≤ 32
+  pub is : l ≡ listed (rangesIn l)
+
 -- reserved areas that may be carved out: none is empty (4), and none ends above the top (2)
 pub record Reserved (l : RangeList) : Type 0 where
   pub few : l .len ≤ 32

@@ -4,13 +4,23 @@ ghost use mathlib.Core.List.{[], _∷_};
 ghost use Prim.Native.Nat.{_≤_};
 ghost use Rattle.memory_structs.specs.Range as range;
 ghost use Rattle.model.specs.Carving as model;
-ghost use Rattle.carving.specs.Ranges.{rangesIn, Reserved, Appended};
+ghost use Rattle.carving.specs.Ranges.{listed, rangesIn, Reserved, Appended};
 
 // Ranges in the order in which they came, the first 32 of them. `len` is 33 where there are more.
 pub struct RangeList {
     pub starts: [u64; 32],
     pub ends: [u64; 32],
     pub len: usize,
+}
+
+pub fn no_ranges() -> RangeList
+    ensures { λ r. ⌜ r ≡ listed [] ⌝ }
+{
+    RangeList {
+        starts: [0; 32],
+        ends: [0; 32],
+        len: 0,
+    }
 }
 
 // The range goes in at the end; the 33rd is counted and not stored.

@@ -1,0 +1,71 @@
+// Reserved areas that overlap become one: document 01, "Boot" (000, `init`).
+ghost use mathlib.Core.Path.{_≡_};
+ghost use Prim.Native.Nat.{_<_};
+ghost use lib.ListN.{length};
+ghost use Rattle.memory_structs.specs.Range.{range};
+ghost use Rattle.model.specs.Boot as model;
+ghost use Rattle.carving.specs.Ranges.{rangesIn, listed, Whole};
+ghost use Rattle.joining.specs.Joins.{firstGrown, othersLeft};
+use carving::RangeList;
+use memory_structs::highest;
+use memory_structs::lowest;
+
+// The first area of a list, grown, and those of the others that are left.
+pub struct Absorbed {
+    pub start: u64,
+    pub end: u64,
+    pub rest: RangeList,
+}
+
+// "join reserved areas that overlap, pass by pass, into the earlier one (touching ones stay two)"
+pub fn join(mut l: RangeList) -> RangeList
+    requires { ⌜ Whole l ⌝ }
+    ensures { λ r. ⌜ r ≡ listed (model.join (rangesIn l)) ⌝ }
+{
+    loop {
+        let next = pass(l);
+        if l.len <= next.len {
+            return l;
+        }
+        l = next;
+    }
+}
+
+// Each area in turn takes in the later ones that it meets.
+fn pass(l: RangeList) -> RangeList
+    requires { ⌜ Whole l ⌝ }
+    ensures { λ r. ⌜ r ≡ listed (model.pass (length (rangesIn l)) (rangesIn l)) ⌝ }
+{
+    let mut joined = carving::no_ranges();
+    let mut left = l;
+    while 0 < left.len {
+        let a = absorb(left);
+        joined = carving::push(joined, a.start, a.end);
+        left = a.rest;
+    }
+    joined
+}
+
+// The first area takes in each later one that it meets, as it has grown by then.
+fn absorb(l: RangeList) -> Absorbed
+    requires { ⌜ Whole l ⌝ }
+    requires { ⌜ 0 < l .len ⌝ }
+    ensures { λ r. ⌜ (range (r .start) (r .end) ≡ firstGrown (rangesIn l)) × (r .rest ≡ listed (othersLeft (rangesIn l))) ⌝ }
+{
+    let mut start = l.starts[0];
+    let mut end = l.ends[0];
+    let mut rest = carving::no_ranges();
+    let mut k = 1;
+    while k < l.len {
+        let other_start = l.starts[k];
+        let other_end = l.ends[k];
+        k += 1;
+        if highest(start, other_start) <= lowest(end, other_end) {
+            start = lowest(start, other_start);
+            end = highest(end, other_end);
+        } else {
+            rest = carving::push(rest, other_start, other_end);
+        }
+    }
+    Absorbed { start, end, rest }
+}
