@@ -3,7 +3,7 @@ use Prim.Native.Nat.{ℕ, zero, suc, _+_, _≤_, _<_, min}
 use native.Mathlib.Omega.{arith}
 use native.Mathlib.Numerals.{add-one}
 use mathlib.Core.Path.{_≡_, refl, sym, ap, _∙_}
-use mathlib.Core.List.{List, [], _∷_, _++_, map}
+use mathlib.Core.List.{List, [], _∷_, _++_, map, append-nil}
 use lib.ListN.{length, set, getD, drop, length-map, length-append}
 use borrow.Author.Tests.{lt-ltb, le-ltb}
 use Rattle.memory_structs.specs.Range.{range}
@@ -66,14 +66,10 @@ module _ (l : RangeList) (s e : ℕ) where
       let c : 33 ≡ min 33 (length (rs ++ range s e ∷ [])) = omega (arith, one-more rs (range s e)) in
       λ i. record { starts = a i; ends = b i; len = c i }
 
-append-none : (xs : List FrameRange) → xs ≡ xs ++ []
-append-none [] = refl
-append-none (x ∷ xs) = ap (λ (l : List FrameRange). x ∷ l) (append-none xs)
-
 -- a piece, where it has a frame
 pub no-piece : (l : RangeList) (s e : ℕ) → e < s → Appended l (piece s e) l
 unfolding piece
-no-piece l s e h xs p = p ∙ ap listed (append-none xs) ∙ rw (lt-ltb e s h)
+no-piece l s e h xs p = p ∙ ap listed (sym (append-nil xs)) ∙ rw (lt-ltb e s h)
 
 pub one-piece : (l r : RangeList) (s e : ℕ) → s ≤ e → Appended l (range s e ∷ []) r → Appended l (piece s e) r
 unfolding piece
@@ -102,17 +98,24 @@ listed-whole l rs h e = record {
 pub whole-length : (l : RangeList) → Whole l → length (rangesIn l) ≡ l .len
 whole-length l w = omega (arith, count l (rangesIn l) (w .is), w .few)
 
-at-place : (n k : ℕ) (rs : List FrameRange) → k < length rs → k < n
-    → drop k rs ≡ range (getD (padded n (map (λ r. r .start) rs)) k 0) (getD (padded n (map (λ r. r .end) rs)) k 0) ∷ drop (suc k) rs
-unfolding padded
-at-place n k [] h l = absurd (omega arith)
-at-place zero k (r ∷ rs) h l = absurd (omega arith)
-at-place (suc n) zero (r ∷ rs) h l = refl
-at-place (suc n) (suc k) (r ∷ rs) h l = at-place n k rs (omega arith) (omega arith)
+-- the range at i, and those after it
+pub pairs-cons : (n i : ℕ) (ss es : List ℕ) → i < n → n ≤ length ss → n ≤ length es → drop i (pairs n ss es) ≡ range (getD ss i 0) (getD es i 0) ∷ drop (suc i) (pairs n ss es)
+unfolding pairs
+pairs-cons zero i ss es h p q = absurd (omega arith)
+pairs-cons (suc n) i [] es h p q = absurd (omega arith)
+pairs-cons (suc n) i (s ∷ ss) [] h p q = absurd (omega arith)
+pairs-cons (suc n) zero (s ∷ ss) (e ∷ es) h p q = refl
+pairs-cons (suc n) (suc i) (s ∷ ss) (e ∷ es) h p q = pairs-cons n i ss es (omega arith) (omega arith) (omega arith)
 
--- the range at k, and those after it
+padded-length : (n : ℕ) (xs : List ℕ) → length (padded n xs) ≡ n
+unfolding padded
+padded-length zero xs = refl
+padded-length (suc n) [] = ap suc (padded-length n [])
+padded-length (suc n) (x ∷ xs) = ap suc (padded-length n xs)
+
 pub range-at : (l : RangeList) → Whole l → (k : ℕ) → k < l .len → drop k (rangesIn l) ≡ range (getD (l .starts) k 0) (getD (l .ends) k 0) ∷ drop (k + 1) (rangesIn l)
-unfolding listed
+unfolding listed rangesIn
 range-at l w k h =
-    at-place 32 k (rangesIn l) (omega (arith, whole-length l w)) (omega (arith, w .few))
-    ∙ sym (ap (λ (x : RangeList). range (getD (x .starts) k 0) (getD (x .ends) k 0) ∷ drop (suc k) (rangesIn l)) (w .is)) ∙ rw (add-one k)
+    let starts : length (l .starts) ≡ 32 = ap (λ (x : RangeList). length (x .starts)) (w .is) ∙ padded-length 32 (map (λ r. r .start) (rangesIn l)) in
+    let ends : length (l .ends) ≡ 32 = ap (λ (x : RangeList). length (x .ends)) (w .is) ∙ padded-length 32 (map (λ r. r .end) (rangesIn l)) in
+    pairs-cons (l .len) k (l .starts) (l .ends) h (omega (arith, w .few)) (omega (arith, w .few)) ∙ rw (add-one k)

@@ -18,6 +18,7 @@ use Rattle.model.proofs.Boots.{past-from}
 use Rattle.model.proofs.Carved.{pieces-walk}
 use Rattle.carving.specs.declared.RangeList.{RangeList}
 use Rattle.carving.specs.Ranges.{listed, pairs, rangesIn, Reserved, Appended}
+use Rattle.carving.proofs.Listed.{pairs-cons}
 
 -- the frame moves past an area that holds it
 pub past-held : (r : FrameRange) (s : ℕ) → r .start ≤ s → s ≤ r .end → r .end + 1 ≡ past r s
@@ -45,15 +46,7 @@ below-start r s h p = go (leb (r .start) s) (leb s (r .end)) refl refl
     go true false e f = absurd (omega (arith, leb-true (r .start) s e, leb-false s (r .end) f, past-above r s (leb-false s (r .end) f)))
     go false b e f = omega (arith, leb-false (r .start) s e, past-below r s (leb-false (r .start) s e))
 
--- the area at i
-pairs-cons : (n i : ℕ) (ss es : List ℕ) → i < n → n ≤ length ss → n ≤ length es → drop i (pairs n ss es) ≡ range (getD ss i 0) (getD es i 0) ∷ drop (suc i) (pairs n ss es)
-unfolding pairs
-pairs-cons zero i ss es h p q = absurd (omega arith)
-pairs-cons (suc n) i [] es h p q = absurd (omega arith)
-pairs-cons (suc n) i (s ∷ ss) [] h p q = absurd (omega arith)
-pairs-cons (suc n) zero (s ∷ ss) (e ∷ es) h p q = refl
-pairs-cons (suc n) (suc i) (s ∷ ss) (e ∷ es) h p q = pairs-cons n i ss es (omega arith) (omega arith) (omega arith)
-
+-- no area from the last on
 pairs-end : (n i : ℕ) (ss es : List ℕ) → n ≤ i → drop i (pairs n ss es) ≡ []
 unfolding pairs
 pairs-end zero zero ss es h = refl

@@ -13,6 +13,7 @@ pub struct RangeList {
     pub len: usize,
 }
 
+// A list to push to.
 pub fn no_ranges() -> RangeList
     ensures { λ r. ⌜ r ≡ listed [] ⌝ }
 {

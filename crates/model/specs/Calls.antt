@@ -6,11 +6,10 @@ use mathlib.Core.List.{List}
 use lib.ListN.{length, replicate}
 use lib.Dec.{ltb, eqb}
 use Rattle.memory_structs.specs.Choice.{if_then_else_}
-use Rattle.memory_structs.specs.Range.{empty}
 use Rattle.memory_structs.specs.declared.range.FrameRange.{FrameRange}
 use Rattle.model.specs.Lists.{Lists, unused, entries}
 use Rattle.model.specs.Boot.{Extent, inFrames, inBytes, bootRefusal, byteRefusal, booted}
-use Rattle.model.specs.Requests.{Result, refused, counted, byCount, byBytes, byAddress, byAddressBytes, byAddressGeneral}
+use Rattle.model.specs.Requests.{Result, withoutFrames, refused, counted, byCount, byBytes, byAddress, byAddressBytes, byAddressGeneral}
 use Rattle.model.specs.Returns.{giveBack, sort}
 use Rattle.model.specs.Queries.{kindOf, total, heldRuns, HeldWritten}
 use Rattle.model.specs.Rules.{rules}
@@ -22,8 +21,8 @@ use Rattle.model.specs.declared.Kind.{Kind}
 use Rattle.model.specs.declared.FrameAllocator.{FrameAllocator}
 use Rattle.model.specs.declared.Called.{Called}
 
--- demand 3, in the asker's words: "boots, requests by count or address, in frames or bytes, general-only requests, returns, sorts, kinds, free totals, held
--- lists". The held list's number is the length of its lent buffer, in words.
+-- demand 3, in the asker's words: "boots, requests by count or address, in frames or bytes, general-only requests, returns, sorts,
+-- kinds, free totals, held lists". The held list's number is the length of its lent buffer, in words.
 pub data Call : Type 0 where
   bootCall : List Area → Call
   bootBytesCall : List ByteArea → Call
@@ -87,7 +86,7 @@ pub record Outcome : Type 0 where
 
 -- 3 and 11: "A refusal returns its number, the range [1,0], and 0 and 0 for frame and count"
 unfoldable pub unchanged : ℕ → FrameAllocator → List ℕ → Outcome
-unchanged n a ws = record { answer = record { number = n; range = empty; frame = 0; count = 0 }; allocator = a; words = ws }
+unchanged n a ws = record { answer = withoutFrames n 0; allocator = a; words = ws }
 
 -- the result on lists, stored. A refusal and a question leave the lists, and so the record and every word, as they were:
 -- `refused-unchanged` and `question-unchanged` (proofs/Unchanged).

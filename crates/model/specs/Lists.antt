@@ -133,7 +133,8 @@ unfoldable pub holder : ℕ → List FrameRange → FrameRange
 holder f [] = empty
 holder f (r ∷ rs) = if covers r f then r else holder f rs
 
--- the frames from s to e, of which there is one at least, all lie in the ranges: from each range that holds the first of them on to the frame after it.
+-- the frames from s to e, of which there is one at least, all lie in the ranges: from each range that holds the first of them on to the
+-- frame after it.
 -- The first argument bounds the steps; `is-union` and `union-tally` (proofs/Ruled, Lawful) say that one for each range is enough.
 unfoldable pub spanned : ℕ → List FrameRange → ℕ → ℕ → Bool
 spanned zero rs s e = false

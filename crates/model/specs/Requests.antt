@@ -15,9 +15,13 @@ pub record Result : Type 0 where
   pub answer : Answer
   pub lists : Lists
 
+-- an answer that names no frames
+abbrev pub withoutFrames : ℕ → ℕ → Answer
+withoutFrames n k = record { number = n; range = empty; frame = 0; count = k }
+
 -- "A refusal returns its number, the range [1,0], and 0 and 0 for frame and count except in 15"
 unfoldable pub refused : ℕ → Lists → Result
-refused n l = record { answer = record { number = n; range = empty; frame = 0; count = 0 }; lists = l }
+refused n l = record { answer = withoutFrames n 0; lists = l }
 
 -- 15 "carries frame and count"
 unfoldable pub refusedMissing : ℕ → ℕ → Lists → Result
@@ -28,7 +32,7 @@ unfoldable pub granted : FrameRange → Lists → Result
 granted r l = record { answer = record { number = 0; range = r; frame = 0; count = 0 }; lists = l }
 
 unfoldable pub counted : ℕ → Lists → Result
-counted n l = record { answer = record { number = 0; range = empty; frame = 0; count = n }; lists = l }
+counted n l = record { answer = withoutFrames 0 n; lists = l }
 
 -- what a search by address finds in one list: "*not found*", "*missing* (first absent frame, how many absent)", "touching and short
 -- gives refusal 17", or the chunks that hold the request

@@ -5,12 +5,12 @@ use mathlib.Core.List.{List}
 use lib.ListN.{length}
 use lib.Dec.{ltb}
 use Rattle.memory_structs.specs.Choice.{if_then_else_}
-use Rattle.memory_structs.specs.Range.{empty, meets}
+use Rattle.memory_structs.specs.Range.{meets}
 use Rattle.model.specs.Lists.{Lists, Slot, entries, anyOf, allOf, inUnion}
 use Rattle.model.specs.Rules.{tidy}
 use Rattle.model.specs.Store.{slotsIn, storedIn, part}
+use Rattle.model.specs.Requests.{withoutFrames}
 use Rattle.model.specs.Calls.{keepsRules}
-use Rattle.model.specs.declared.Answer.{Answer}
 use Rattle.model.specs.declared.Called.{Called}
 use Rattle.model.specs.declared.EarlyList.{EarlyList}
 use Rattle.model.specs.declared.FrameAllocator.{FrameAllocator}
@@ -20,10 +20,6 @@ use Rattle.model.specs.declared.FrameAllocator.{FrameAllocator}
 -- list's short buffer is 3 before 11, whatever the record: `short-call`.
 unfoldable pub checked : FrameAllocator → List ℕ → ℕ
 checked a ws = if ltb (length ws) 4096 then 3 else if keepsRules a ws then 0 else 11
-
--- an answer that names no frames
-abbrev pub withoutFrames : ℕ → ℕ → Answer
-withoutFrames n k = record { number = n; range = empty; frame = 0; count = k }
 
 -- "A refusal returns its number, the range [1,0], and 0 and 0 for frame and count except in 15; record, workspace and buffers keep every
 -- value."
