@@ -2,7 +2,7 @@
 ghost use mathlib.Core.Path.{_≡_};
 ghost use mathlib.Core.Bool.{false, _||_};
 ghost use Prim.Native.Nat.{min, max};
-ghost use Rattle.memory_structs.specs.Range.{range, isEmpty, size, aboveTop, contains, framesBelow, framesAbove};
+ghost use Rattle.memory_structs.specs.Range.{range, isEmpty, size, aboveTop, contains, touched, bytesOutOfBounds, framesBelow, framesAbove};
 ghost use Rattle.memory_structs.specs.Answers.{shownTest, shownNumber, shownRange};
 ghost use Rattle.memory_structs.specs.RangeCalls.{sizeInFrames, containsRange, overlap, toExtended, fromPhysAddr, offsetOfAddress, addressAtOffset};
 
@@ -118,25 +118,40 @@ impl FrameRange {
         MaybeRange::Range(FrameRange::new(lowest(self.start, frame), highest(self.end, frame)))
     }
 
-    // The frames that `bytes` bytes from `address` on touch.
     pub fn from_phys_addr(address: u64, bytes: u64) -> MaybeRange
         ensures { λ r. ⌜ shownRange r ≡ fromPhysAddr address bytes ⌝ }
     {
-        if ADDRESS_LIMIT <= address {
+        if Self::bytes_out_of_bounds(address, bytes) {
             return MaybeRange::OutOfBounds;
+        }
+        MaybeRange::Range(Self::touched(address, bytes))
+    }
+
+    // The frames that `bytes` bytes from `address` on touch, whatever the two numbers are.
+    pub fn touched(address: u64, bytes: u64) -> FrameRange
+        ensures { λ r. ⌜ r ≡ touched address bytes ⌝ }
+    {
+        if bytes == 0 {
+            return FrameRange::EMPTY;
+        }
+        // To the last byte, not one past it: the end is included. Frames and rests are added apart, since the whole sum may not fit.
+        let last = bytes - 1;
+        let rests = (address % FRAME_SIZE + last % FRAME_SIZE) / FRAME_SIZE;
+        let start = address / FRAME_SIZE;
+        FrameRange::new(start, start + last / FRAME_SIZE + rests)
+    }
+
+    // Whether 2 refuses an address and a size in bytes.
+    pub fn bytes_out_of_bounds(address: u64, bytes: u64) -> bool
+        ensures { λ r. ⌜ r ≡ bytesOutOfBounds address bytes ⌝ }
+    {
+        if ADDRESS_LIMIT <= address {
+            return true;
         }
         if ADDRESS_LIMIT < bytes {
-            return MaybeRange::OutOfBounds;
+            return true;
         }
-        if bytes == 0 {
-            return MaybeRange::Range(FrameRange::EMPTY);
-        }
-        // The last byte, not one past it: the end is included.
-        let end = (address + (bytes - 1)) / FRAME_SIZE;
-        if Self::TOP < end {
-            return MaybeRange::OutOfBounds;
-        }
-        MaybeRange::Range(FrameRange::new(address / FRAME_SIZE, end))
+        Self::touched(address, bytes).is_above_top()
     }
 
     pub fn offset_of_address(self, address: u64) -> MaybeNumber
