@@ -1,0 +1,84 @@
+-- Areas as a lent list of words. The words in quotes are document 01's.
+use Prim.Native.Nat.{ℕ, zero, suc}
+use mathlib.Core.Path.{_≡_}
+use mathlib.Core.Bool.{Bool, false, _||_}
+use mathlib.Core.List.{List, [], _∷_}
+use Rattle.memory_structs.specs.Range.{range, isEmpty, aboveTop, touched, bytesOutOfBounds}
+use Rattle.memory_structs.specs.declared.range.FrameRange.{FrameRange}
+use Rattle.model.specs.Lists.{anyOf}
+use Rattle.model.specs.Boot.{Extent, marked, reservedOf, allPieces}
+use Rattle.model.specs.declared.Area.{Area}
+use Rattle.model.specs.declared.ByteArea.{ByteArea}
+use Rattle.model.specs.declared.Kind.{Kind}
+use Rattle.model.specs.declared.Kind.the-variants.{General, Reserved}
+use Rattle.carving.specs.Ranges.{listed, Appended}
+use Rattle.areas.specs.declared.Unit.{Unit}
+use Rattle.areas.specs.declared.Unit.the-variants.{Frames, Bytes}
+use Rattle.areas.specs.declared.BootArea.{BootArea}
+use Rattle.areas.specs.declared.Collected.{Collected}
+
+-- "kind (general or reserved)", as a word
+unfoldable pub kindOf : ℕ → Kind
+kindOf zero = General
+kindOf (suc k) = Reserved
+
+-- "Areas come as a lent list of start, end and kind": three words each
+unfoldable pub areasIn : List ℕ → List Area
+areasIn (s ∷ e ∷ k ∷ ws) = record { start = s; end = e; kind = kindOf k } ∷ areasIn ws
+areasIn (s ∷ e ∷ []) = []
+areasIn (s ∷ []) = []
+areasIn [] = []
+
+-- "A second entry takes areas as start address, byte size and kind": three words each too
+unfoldable pub byteAreasIn : List ℕ → List ByteArea
+byteAreasIn (a ∷ b ∷ k ∷ ws) = record { address = a; bytes = b; kind = kindOf k } ∷ byteAreasIn ws
+byteAreasIn (a ∷ b ∷ []) = []
+byteAreasIn (a ∷ []) = []
+byteAreasIn [] = []
+
+-- The same in the shape of the code: an area with its test for 2. `frames-read` and `bytes-read` (proofs/Read) say that these are the
+-- areas above, and that 2 refuses where the model's test does.
+
+unfoldable pub inFrames : ℕ → ℕ → Kind → BootArea
+inFrames s e k = record { start = s; end = e; kind = k; outside = aboveTop (range s e) }
+
+unfoldable pub inBytes : ℕ → ℕ → Kind → BootArea
+inBytes a b k = record { start = touched a b .start; end = touched a b .end; kind = k; outside = bytesOutOfBounds a b }
+
+unfoldable pub areaOf : Unit → ℕ → ℕ → ℕ → BootArea
+areaOf Frames s e k = inFrames s e (kindOf k)
+areaOf Bytes a b k = inBytes a b (kindOf k)
+
+unfoldable pub read : Unit → List ℕ → List BootArea
+read u (x ∷ y ∷ k ∷ ws) = areaOf u x y k ∷ read u ws
+read u (x ∷ y ∷ []) = []
+read u (x ∷ []) = []
+read u [] = []
+
+unfoldable pub extents : List BootArea → List Extent
+extents [] = []
+extents (a ∷ xs) = marked (a .kind) (range (a .start) (a .end)) ∷ extents xs
+
+unfoldable pub anyOutside : List BootArea → Bool
+anyOutside [] = false
+anyOutside (a ∷ xs) = a .outside || anyOutside xs
+
+-- the reserved areas
+abbrev pub reservedIn : List BootArea → List FrameRange
+reservedIn xs = reservedOf (extents xs)
+
+-- the pieces of the general areas
+abbrev pub piecesIn : List FrameRange → List BootArea → List FrameRange
+piecesIn rs xs = allPieces rs (extents xs)
+
+-- what is collected of these areas
+pub record Collects (xs : List BootArea) (c : Collected) : Type 0 where
+  pub reserved-are : c .reserved ≡ listed (reservedIn xs)
+  pub empty-is : c .«any_empty» ≡ anyOf isEmpty (reservedIn xs)
+  pub outside-is : c .«any_outside» ≡ anyOutside xs
+
+-- and of one area more
+pub record Adds (before : Collected) (a : BootArea) (after : Collected) : Type 0 where
+  pub appended : Appended (before .reserved) (reservedIn (a ∷ [])) (after .reserved)
+  pub empty-is : after .«any_empty» ≡ (before .«any_empty» || anyOf isEmpty (reservedIn (a ∷ [])))
+  pub outside-is : after .«any_outside» ≡ (before .«any_outside» || a .outside)
