@@ -47,7 +47,7 @@ below-start r s h p = go (leb (r .start) s) (leb s (r .end)) refl refl
     go false b e f = omega (arith, leb-false (r .start) s e, past-below r s (leb-false (r .start) s e))
 
 -- no area from the last on
-pairs-end : (n i : ℕ) (ss es : List ℕ) → n ≤ i → drop i (pairs n ss es) ≡ []
+pub pairs-end : (n i : ℕ) (ss es : List ℕ) → n ≤ i → drop i (pairs n ss es) ≡ []
 unfolding pairs
 pairs-end zero zero ss es h = refl
 pairs-end zero (suc i) ss es h = refl
