@@ -10,7 +10,7 @@ use Rattle.memory_structs.specs.Range.{range}
 use Rattle.memory_structs.specs.declared.range.FrameRange.{FrameRange}
 use Rattle.model.specs.Carving.{piece}
 use Rattle.carving.specs.declared.RangeList.{RangeList}
-use Rattle.carving.specs.Ranges.{padded, listed, pairs, rangesIn, Whole, Appended}
+use Rattle.carving.specs.Ranges.{padded, listed, pairs, rangesIn, Whole, Counted, Appended}
 
 set-padded : (n : ℕ) (xs : List ℕ) (v : ℕ) → length xs < n → set (padded n xs) (length xs) v ≡ padded n (xs ++ v ∷ [])
 unfolding padded
@@ -93,6 +93,12 @@ listed-whole l rs h e = record {
   few = omega (arith, count l rs e);
   is = e ∙ ap listed (sym (ap rangesIn e ∙ read-back rs h));
 }
+
+pub listed-counted : (l : RangeList) (rs : List FrameRange) → l ≡ listed rs → Counted l
+listed-counted l rs e h = listed-whole l rs (omega (arith, count l rs e)) e
+
+pub listed-ranges : (l : RangeList) (rs : List FrameRange) → l .len ≤ 32 → l ≡ listed rs → rangesIn l ≡ rs
+listed-ranges l rs h e = ap rangesIn e ∙ read-back rs (omega (arith, count l rs e))
 
 -- of a list that has stored all, `len` is how many
 pub whole-length : (l : RangeList) → Whole l → length (rangesIn l) ≡ l .len

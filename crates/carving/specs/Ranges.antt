@@ -36,6 +36,10 @@ pub record Whole (l : RangeList) : Type 0 where
   pub few : l .len ≤ 32
   pub is : l ≡ listed (rangesIn l)
 
+-- a list that has stored all of its ranges, where they are 32 or fewer
+abbrev pub Counted : RangeList → Type 0
+Counted l = l .len ≤ 32 → Whole l
+
 -- reserved areas that may be carved out: none is empty (4), and none ends above the top (2)
 pub record Reserved (l : RangeList) : Type 0 where
   pub few : l .len ≤ 32

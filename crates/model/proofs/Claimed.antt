@@ -3,24 +3,20 @@ use Prim.Native.Nat.{ℕ, _-_, _≤_, _<_}
 use native.Mathlib.Omega.{arith}
 use mathlib.Core.Path.{_≡_, refl, sym, ap, subst, _∙_}
 use mathlib.Core.Bool.{Bool, true, false, _||_, or-false}
-use mathlib.Core.List.{List, [], _∷_}
+use mathlib.Core.List.{List, []}
 use lib.ListN.{length}
-use lib.Dec.{leb, ltb, eqb}
+use lib.Dec.{ltb, eqb}
 use borrow.Author.Tests.{eqb-true, eqb-false, ltb-false}
 use Rattle.memory_structs.specs.Choice.{if_then_else_}
-use Rattle.memory_structs.specs.Range.{covers, aboveTop, touched, bytesOutOfBounds, addressLimit}
-use Rattle.memory_structs.proofs.Bools.{if-cases, neither-first, neither-second}
-use Rattle.memory_structs.specs.declared.range.FrameRange.{FrameRange}
+use Rattle.memory_structs.specs.Range.{covers, aboveTop}
+use Rattle.memory_structs.proofs.Bools.{if-cases}
 use Rattle.model.specs.Lists.{Lists, entries, anyOf, allOf, disjoint, bound}
-use Rattle.model.specs.Boot.{Extent, marked, inFrames, inBytes, ranges, rangeOf, bootRefusal, anyOutOfBounds, byteRefusal, booted}
+use Rattle.model.specs.Boot.{Extent, inFrames, inBytes, ranges, bootRefusal, anyOutOfBounds, byteRefusal, booted}
 use Rattle.model.specs.Requests.{refused, counted, Result}
 use Rattle.model.specs.Rules.{rules, tidy, slotted}
-use Rattle.model.specs.Store.{load, recordOf, wordsOf, wordsIn}
+use Rattle.model.specs.Store.{load, recordOf, wordsOf}
 use Rattle.model.specs.Calls.{Call, bootCall, bootBytesCall, Outcome, answer, boot, noEntries, shortBuffer, unchanged, stored, keepsRules, call, fresh, freshRecord}
 use Rattle.model.specs.History.{held, everGranted, Exclusive, isGeneral, timesFree, in-frames, in-bytes, Holds, Demand3, FirstBoot}
-use Rattle.model.specs.declared.ByteArea.{ByteArea}
-use Rattle.model.specs.declared.Kind.{Kind}
-use Rattle.model.specs.declared.Kind.the-variants.{General, Reserved}
 use Rattle.model.specs.declared.FrameAllocator.{FrameAllocator}
 use Rattle.model.proofs.Cover.{count}
 use Rattle.model.proofs.Lawful.{Lawful}
@@ -28,8 +24,8 @@ use Rattle.model.proofs.Ruled.{rules-lawful}
 use Rattle.model.proofs.Runs.{after, events}
 use Rattle.model.proofs.Trace.{Told, told, free-told}
 use Rattle.model.proofs.Independent.{independent}
-use Rattle.model.proofs.Boots.{Accepted, accepted, booted-lawful, booted-known, booted-free, booted-general, booted-some}
-use Rattle.model.proofs.Whole.{storables, words-count, words-twice, part-then}
+use Rattle.model.proofs.Boots.{bytes-below, Accepted, accepted, booted-lawful, booted-known, booted-free, booted-general, booted-some}
+use Rattle.model.proofs.Whole.{storables, words-count, words-twice, early-words}
 use Rattle.model.proofs.Carried.{Stands, loads, called, ran}
 
 -- ---- the first call: an accepted boot of a fresh record
@@ -38,27 +34,9 @@ fresh-lawful : Lawful fresh
 unfolding fresh rules tidy slotted entries allOf anyOf disjoint bound
 fresh-lawful = rules-lawful fresh refl
 
-early-words : (ws : List ℕ) → wordsOf fresh ws ≡ ws
-unfolding wordsOf wordsIn fresh
-early-words ws = rw (part-then 3072 ws, part-then 2048 ws, part-then 1024 ws) (part-then 0 ws)
-
 fresh-stands : (ws : List ℕ) → 4096 ≤ length ws → Stands fresh freshRecord ws
-unfolding freshRecord
-fresh-stands ws h = record { lawful = fresh-lawful; records = refl; words = sym (early-words ws); enough = h }
-
--- a byte area that passes 2 ends at or below the top
-bytes-below : (areas : List ByteArea) → anyOutOfBounds areas ≡ false → anyOf aboveTop (ranges (inBytes areas)) ≡ false
-unfolding anyOutOfBounds inBytes ranges anyOf rangeOf marked
-bytes-below [] e = refl
-bytes-below (x ∷ areas) e =
-    let here = neither-first (bytesOutOfBounds (x .address) (x .bytes)) (anyOutOfBounds areas) e in
-    let rest = neither-second (bytesOutOfBounds (x .address) (x .bytes)) (anyOutOfBounds areas) e in
-    let low : aboveTop (touched (x .address) (x .bytes)) ≡ false = neither-second (ltb addressLimit (x .bytes)) _ (neither-second (leb addressLimit (x .address)) _ here) in
-    go (x .kind) (touched (x .address) (x .bytes)) low (bytes-below areas rest)
-  where
-    go : (k : Kind) (r : FrameRange) → aboveTop r ≡ false → anyOf aboveTop (ranges (inBytes areas)) ≡ false → (aboveTop (rangeOf (marked k r)) || anyOf aboveTop (ranges (inBytes areas))) ≡ false
-    go General r low rest = rw (low, rest)
-    go Reserved r low rest = rw (low, rest)
+unfolding fresh freshRecord
+fresh-stands ws h = record { lawful = fresh-lawful; records = refl; words = sym (early-words fresh refl ws); enough = h }
 
 -- what an accepted boot of a fresh record says and leaves
 record First (n : ℕ) (xs : List Extent) : Type 0 where

@@ -189,6 +189,11 @@ words-kept a ws t =
     rw (t .general-free .words, t .reserved-free .words, t .general-regions .words, t .reserved-regions .words)
     (rw (part-then 3072 ws, part-then 2048 ws, part-then 1024 ws) (part-then 0 ws))
 
+-- "Early form doesn't read or write the workspace."
+pub early-words : (l : Lists) → l .sorted ≡ false → (ws : List ℕ) → wordsOf l ws ≡ ws
+unfolding wordsOf wordsIn
+early-words l e ws = rw e (rw (part-then 3072 ws, part-then 2048 ws, part-then 1024 ws) (part-then 0 ws))
+
 -- the test of storing, and what it says plainly
 
 fits-in : {b : Bool} {s : List Slot} → Storable b s → FitsIn b s

@@ -1,0 +1,199 @@
+-- The numbers that refuse a boot on empty lists, in their order.
+use Prim.Native.Nat.{ℕ, _≤_, _<_, min, max}
+use native.Mathlib.Omega.{arith}
+use mathlib.Core.Path.{_≡_, refl, sym, ap, _∙_}
+use mathlib.Core.Bool.{Bool, true, false}
+use mathlib.Core.List.{List, [], _∷_, _++_}
+use lib.ListN.{length}
+use lib.Dec.{leb, ltb}
+use borrow.Author.Tests.{ltb-true, ltb-false, lt-ltb, le-ltb, le-leb, ne-eqb}
+use Rattle.memory_structs.specs.Choice.{if_then_else_}
+use Rattle.memory_structs.specs.Range.{isEmpty, aboveTop, top}
+use Rattle.memory_structs.specs.declared.range.FrameRange.{FrameRange}
+use Rattle.memory_structs.proofs.Bools.{neither-first, neither-second}
+use Rattle.model.specs.Lists.{anyOf, allOf, disjoint}
+use Rattle.model.specs.Boot.{Extent, general, reserved, reservedOf, rangeOf, ranges, join, booted}
+use Rattle.model.specs.Boot as model
+use Rattle.model.specs.Store.{recordOf}
+use Rattle.model.specs.declared.FrameAllocator.{FrameAllocator}
+use Rattle.model.proofs.Boots.{bytes-below, join-length}
+use Rattle.model.proofs.Joined.{join-apart}
+use Rattle.rules.specs.Check.{refusedWith, acceptedWith}
+use Rattle.carving.specs.declared.RangeList.{RangeList}
+use Rattle.carving.specs.Ranges.{listed, rangesIn, Whole, Reserved}
+use Rattle.carving.proofs.Listed.{count, listed-whole, listed-ranges, whole-length}
+use Rattle.areas.specs.declared.Unit.{Unit}
+use Rattle.areas.specs.declared.Unit.the-variants.{Frames, Bytes}
+use Rattle.areas.specs.declared.BootArea.{BootArea}
+use Rattle.areas.specs.declared.Collected.{Collected}
+use Rattle.areas.specs.Areas.{byteAreasIn, read, extents, anyOutside, reservedIn, piecesIn, Collects}
+use Rattle.areas.proofs.Read.{frames-read, bytes-read}
+use Rattle.filling.specs.Filled.{filled}
+use Rattle.boot.specs.Boots.{refusalOf, finished, bootedFrom}
+
+-- an area that passes 2 ends at or below the top
+reserved-low : (xs : List Extent) → anyOf aboveTop (ranges xs) ≡ false → allOf (λ r. leb (r .end) top) (reservedOf xs) ≡ true
+unfolding anyOf allOf ranges rangeOf reservedOf
+reserved-low [] e = refl
+reserved-low (general r ∷ xs) e = reserved-low xs (neither-second (aboveTop r) (anyOf aboveTop (ranges xs)) e)
+reserved-low (reserved r ∷ xs) e =
+    let low : r .end ≤ top = omega (arith, ltb-false top (max (r .start) (r .end)) (neither-first (aboveTop r) (anyOf aboveTop (ranges xs)) e)) in
+    rw (le-leb (r .end) top low) (reserved-low xs (neither-second (aboveTop r) (anyOf aboveTop (ranges xs)) e))
+
+read-low : (u : Unit) (ws : List ℕ) → anyOutside (read u ws) ≡ false → anyOf aboveTop (ranges (extents (read u ws))) ≡ false
+read-low Frames ws e = ap (λ (xs : List Extent). anyOf aboveTop (ranges xs)) (frames-read ws .extents-are) ∙ sym (frames-read ws .outside-is) ∙ e
+read-low Bytes ws e = ap (λ (xs : List Extent). anyOf aboveTop (ranges xs)) (bytes-read ws .extents-are) ∙ bytes-below (byteAreasIn ws) (sym (bytes-read ws .outside-is) ∙ e)
+
+-- 5, 4 and 2 by what is collected, test by test
+module _ (c : Collected) where
+  pub five : 32 < c .reserved .len → 5 ≡ refusalOf c
+  unfolding refusalOf
+  five h = rw (lt-ltb 32 (c .reserved .len) h)
+
+  module _ (h : c .reserved .len ≤ 32) where
+    pub four : c .«any_empty» ≡ true → 4 ≡ refusalOf c
+    unfolding refusalOf
+    four e = rw (le-ltb 32 (c .reserved .len) h, e)
+
+    pub two : c .«any_empty» ≡ false → c .«any_outside» ≡ true → 2 ≡ refusalOf c
+    unfolding refusalOf
+    two e o = rw (le-ltb 32 (c .reserved .len) h, e, o)
+
+    pub none : c .«any_empty» ≡ false → c .«any_outside» ≡ false → 0 ≡ refusalOf c
+    unfolding refusalOf
+    none e o = rw (le-ltb 32 (c .reserved .len) h, e, o)
+
+-- what 0 says
+record Passed (c : Collected) : Type 0 where
+  few : c .reserved .len ≤ 32
+  filled : c .«any_empty» ≡ false
+  inside : c .«any_outside» ≡ false
+
+passed : (c : Collected) → refusalOf c ≡ 0 → Passed c
+unfolding refusalOf
+passed c z = go (ltb 32 (c .reserved .len)) (c .«any_empty») (c .«any_outside») refl refl refl z
+  where
+    go : (x y o : Bool) → ltb 32 (c .reserved .len) ≡ x → c .«any_empty» ≡ y → c .«any_outside» ≡ o → _≡_ {A = ℕ} (if x then 5 else if y then 4 else if o then 2 else 0) 0 → Passed c
+    go true y o p q r e = absurd (omega arith)
+    go false true o p q r e = absurd (omega arith)
+    go false false true p q r e = absurd (omega arith)
+    go false false false p q r e = record { few = ltb-false 32 (c .reserved .len) p; filled = q; inside = r }
+
+-- the reserved areas that are collected may be carved out
+module _ (u : Unit) (ws : List ℕ) (c : Collected) (h : Collects (read u ws) c) (z : refusalOf c ≡ 0) where
+  pub reserved-are : rangesIn (c .reserved) ≡ reservedIn (read u ws)
+  reserved-are = listed-ranges (c .reserved) (reservedIn (read u ws)) (passed c z .few) (h .reserved-are)
+
+  pub may-carve : Reserved (c .reserved)
+  may-carve =
+      let p = passed c z in
+      record {
+        few = p .few;
+        filled = ap (anyOf isEmpty) reserved-are ∙ sym (h .empty-is) ∙ p .filled;
+        low = ap (allOf (λ r. leb (r .end) top)) reserved-are ∙ reserved-low (extents (read u ws)) (read-low u ws (sym (h .outside-is) ∙ p .inside));
+      }
+
+  pub may-join : Whole (c .reserved)
+  may-join = listed-whole (c .reserved) (reservedIn (read u ws)) (omega (arith, passed c z .few, count (c .reserved) (reservedIn (read u ws)) (h .reserved-are))) (h .reserved-are)
+
+-- a count that stops at 33 is above 32 where the number is
+above-32 : (m n : ℕ) → m ≡ min 33 n → ltb 32 m ≡ ltb 32 n
+above-32 m n e = go (ltb 32 n) refl
+  where
+    go : (t : Bool) → ltb 32 n ≡ t → ltb 32 m ≡ ltb 32 n
+    go true p = lt-ltb 32 m (omega (arith, ltb-true 32 n p)) ∙ sym p
+    go false p = le-ltb 32 m (omega (arith, ltb-false 32 n p)) ∙ sym p
+
+-- the numbers of the model in two parts: 5, 4 and 2, then 7 and 6
+module _ (xs : List BootArea) (c : Collected) (h : Collects xs c) (a : FrameAllocator) where
+  abbrev rs : List FrameRange
+  rs = reservedIn xs
+
+  abbrev ps : List FrameRange
+  ps = piecesIn rs xs
+
+  abbrev number : ℕ
+  number = model.refusal (anyOutside xs) (extents xs)
+
+  -- the number after 5, 4 and 2
+  abbrev last : ℕ
+  last = if ltb 32 (length ps) then 7 else if disjoint (ps ++ join rs) then 0 else 6
+
+  firsts : refusalOf c ≡ (if ltb 32 (length rs) then 5 else if anyOf isEmpty rs then 4 else if anyOutside xs then 2 else 0)
+  unfolding refusalOf
+  firsts = rw (above-32 (c .reserved .len) (length rs) (count (c .reserved) rs (h .reserved-are)), h .empty-is, h .outside-is) refl
+
+  refused-by : (n : ℕ) → number ≡ n → (n ≡ 0 → ⊥) → refusedWith n a ≡ bootedFrom xs a
+  unfolding bootedFrom
+  refused-by n e z = rw (e, ne-eqb n 0 z)
+
+  boots : number ≡ 0 → acceptedWith 0 (recordOf (booted (extents xs))) ≡ bootedFrom xs a
+  unfolding bootedFrom
+  boots e = rw e
+
+  pub first-refusals : (n : ℕ) → n ≡ refusalOf c → (n ≡ 0 → ⊥) → refusedWith n a ≡ bootedFrom xs a
+  unfolding model.refusal
+  first-refusals n e z = refused-by n (go (ltb 32 (length rs)) (anyOf isEmpty rs) (anyOutside xs) last (sym firsts ∙ sym e)) z
+    where
+      go : (x y o : Bool) (r : ℕ) → _≡_ {A = ℕ} (if x then 5 else if y then 4 else if o then 2 else 0) n → _≡_ {A = ℕ} (if x then 5 else if y then 4 else if o then 2 else r) n
+      go true y o r p = p
+      go false true o r p = p
+      go false false true r p = p
+      go false false false r p = absurd (z (sym p))
+
+  to-last : refusalOf c ≡ 0 → number ≡ last
+  unfolding model.refusal
+  to-last z = go (ltb 32 (length rs)) (anyOf isEmpty rs) (anyOutside xs) last (sym firsts ∙ z)
+    where
+      go : (x y o : Bool) (r : ℕ) → _≡_ {A = ℕ} (if x then 5 else if y then 4 else if o then 2 else 0) 0 → _≡_ {A = ℕ} (if x then 5 else if y then 4 else if o then 2 else r) r
+      go true y o r p = absurd (omega arith)
+      go false true o r p = absurd (omega arith)
+      go false false true r p = absurd (omega arith)
+      go false false false r p = refl
+
+  pub last-refusals : refusalOf c ≡ 0 → (pieces : RangeList) → pieces ≡ listed ps → finished pieces rs a ≡ bootedFrom xs a
+  unfolding finished filled booted
+  last-refusals z pieces e = go (ltb 32 (length ps)) (disjoint (ps ++ join rs)) refl refl (above-32 (pieces .len) (length ps) (count pieces ps e))
+    where
+      go : (x d : Bool) → ltb 32 (length ps) ≡ x → disjoint (ps ++ join rs) ≡ d → ltb 32 (pieces .len) ≡ ltb 32 (length ps) → finished pieces rs a ≡ bootedFrom xs a
+      go true d p q many = rw (many, p) (refused-by 7 (to-last z ∙ rw p) (λ w. omega arith))
+      go false true p q many = rw (many, p, listed-ranges pieces ps (ltb-false 32 (pieces .len) (many ∙ p)) e, q) (boots (to-last z ∙ rw (p, q)))
+      go false false p q many = rw (many, p, listed-ranges pieces ps (ltb-false 32 (pieces .len) (many ∙ p)) e, q) (refused-by 6 (to-last z ∙ rw (p, q)) (λ w. omega arith))
+
+-- the pieces as they were carved
+pub carved-then : (u : Unit) (ws : List ℕ) (c : Collected) → Collects (read u ws) c → refusalOf c ≡ 0 → (a : FrameAllocator) (pieces : RangeList) →
+    pieces ≡ listed (piecesIn (rangesIn (c .reserved)) (read u ws)) → finished pieces (rangesIn (c .reserved)) a ≡ bootedFrom (read u ws) a
+carved-then u ws c h z a pieces e =
+    let same = reserved-are u ws c h z in
+    ap (λ (rs : List FrameRange). finished pieces rs a) same
+    ∙ last-refusals (read u ws) c h a z pieces (e ∙ ap (λ (rs : List FrameRange). listed (piecesIn rs (read u ws))) same)
+
+-- 7 and 6, test by test
+module _ (pieces reserved joined : RangeList) (a : FrameAllocator) (w : Whole reserved) (j : joined ≡ listed (join (rangesIn reserved))) where
+  abbrev js : List FrameRange
+  js = join (rangesIn reserved)
+
+  joined-few : length js ≤ 32
+  joined-few = omega (arith, join-length (rangesIn reserved), whole-length reserved w, w .few)
+
+  pub joined-whole : Whole joined
+  joined-whole = listed-whole joined js joined-few j
+
+  joined-are : rangesIn joined ≡ js
+  joined-are = listed-ranges joined js (joined-whole .few) j
+
+  pub joined-apart : disjoint (rangesIn joined) ≡ true
+  joined-apart = ap disjoint joined-are ∙ join-apart (rangesIn reserved)
+
+  module _ (h : pieces .len ≤ 32) where
+    pub fills : disjoint (rangesIn pieces ++ rangesIn joined) ≡ true → acceptedWith 0 (filled (rangesIn pieces) (rangesIn joined)) ≡ finished pieces (rangesIn reserved) a
+    unfolding finished
+    fills e = rw (le-ltb 32 (pieces .len) h, sym joined-are, e)
+
+    pub six : disjoint (rangesIn pieces ++ rangesIn joined) ≡ false → refusedWith 6 a ≡ finished pieces (rangesIn reserved) a
+    unfolding finished
+    six e = rw (le-ltb 32 (pieces .len) h, sym joined-are, e)
+
+pub seven : (pieces : RangeList) (rs : List FrameRange) (a : FrameAllocator) → 32 < pieces .len → refusedWith 7 a ≡ finished pieces rs a
+unfolding finished
+seven pieces rs a h = rw (lt-ltb 32 (pieces .len) h)

@@ -1,0 +1,113 @@
+// From a boot map to the four lists: document 01, "Boot" (000, `init`).
+ghost use mathlib.Core.Path.{_≡_};
+ghost use mathlib.Core.Bool.{true, not};
+ghost use Prim.Native.Nat.{_≤_};
+ghost use lib.ListN.{length};
+ghost use Rattle.model.specs.Calls.{bootCall, bootBytesCall, Gives, keepsRules, noEntries};
+ghost use Rattle.model.specs.Store.{load};
+ghost use Rattle.carving.specs.Ranges.{rangesIn, Whole, Counted};
+ghost use Rattle.areas.specs.Areas.{read, areasIn, byteAreasIn};
+ghost use Rattle.boot.specs.Boots as spec;
+use areas::Collected;
+use areas::Unit;
+use carving::RangeList;
+use model::Called;
+use model::FrameAllocator;
+
+// Boots from areas given as first frame, last frame and kind. Early form doesn't write the workspace, so it is only read.
+pub fn init(a: FrameAllocator, areas: &[u64], words: &[u64]) -> Called
+    ensures { λ r. ⌜ Gives (bootCall (areasIn (now (areas .entry)))) a (now (words .entry)) r (now (words .entry)) ⌝ }
+{
+    boot(a, areas, Unit::Frames, words)
+}
+
+// Boots from areas given as address, size in bytes and kind.
+pub fn init_from_bytes(a: FrameAllocator, areas: &[u64], words: &[u64]) -> Called
+    ensures { λ r. ⌜ Gives (bootBytesCall (byteAreasIn (now (areas .entry)))) a (now (words .entry)) r (now (words .entry)) ⌝ }
+{
+    boot(a, areas, Unit::Bytes, words)
+}
+
+fn boot(a: FrameAllocator, areas: &[u64], unit: Unit, words: &[u64]) -> Called
+    ensures { λ r. ⌜ Gives (spec.callOf unit (now (areas .entry))) a (now (words .entry)) r (now (words .entry)) ⌝ }
+{
+    let number = may_boot(a, words);
+    if number != 0 {
+        return rules::refused(a, number);
+    }
+    boot_areas(a, areas, unit)
+}
+
+// 3, 11, and 10: "boot, and any list is not empty".
+pub fn may_boot(a: FrameAllocator, words: &[u64]) -> u64
+    ensures { λ r. ⌜ r ≡ spec.mayBoot a (now (words .entry)) ⌝ }
+{
+    let number = rules::check(a, words);
+    if number != 0 {
+        return number;
+    }
+    if has_entries(a, words) { 10 } else { 0 }
+}
+
+fn has_entries(a: FrameAllocator, words: &[u64]) -> bool
+    requires { ⌜ 4096 ≤ length (now words) ⌝ }
+    requires { ⌜ keepsRules a (now words) ≡ true ⌝ }
+    ensures { λ r. ⌜ r ≡ not (noEntries (load a (now (words .entry)))) ⌝ }
+{
+    if lists::count(lists::general_free(a), &words[0..1024]) != 0 {
+        return true;
+    }
+    if lists::count(lists::reserved_free(a), &words[1024..2048]) != 0 {
+        return true;
+    }
+    if lists::count(lists::general_regions(a), &words[2048..3072]) != 0 {
+        return true;
+    }
+    lists::count(lists::reserved_regions(a), &words[3072..4096]) != 0
+}
+
+// Boots a record whose lists are empty.
+fn boot_areas(a: FrameAllocator, areas: &[u64], unit: Unit) -> Called
+    ensures { λ r. ⌜ r ≡ spec.bootedFrom (read unit (now (areas .entry))) a ⌝ }
+{
+    let collected = areas::collect(areas, unit);
+    let number = refusal(collected);
+    if number != 0 {
+        return rules::refused(a, number);
+    }
+    let reserved = collected.reserved;
+    let pieces = areas::carve(areas, unit, reserved);
+    finish(a, pieces, reserved)
+}
+
+// 5, 4 and 2, in this order: what refuses a boot before any area is carved.
+pub fn refusal(c: Collected) -> u64
+    ensures { λ r. ⌜ r ≡ spec.refusalOf c ⌝ }
+{
+    if 32 < c.reserved.len {
+        return 5;
+    }
+    if c.any_empty {
+        return 4;
+    }
+    if c.any_outside {
+        return 2;
+    }
+    0
+}
+
+// 7 and 6, or the record with its lists filled.
+pub fn finish(a: FrameAllocator, pieces: RangeList, reserved: RangeList) -> Called
+    requires { ⌜ Counted pieces ⌝ }
+    requires { ⌜ Whole reserved ⌝ }
+    ensures { λ r. ⌜ r ≡ spec.finished pieces (rangesIn reserved) a ⌝ }
+{
+    if 32 < pieces.len {
+        return rules::refused(a, 7);
+    }
+    let joined = joining::join(reserved);
+    if filling::are_disjoint(pieces, joined) {
+        return rules::accepted(filling::fill_lists(pieces, joined), 0);
+    }
+    rules::refused(a, 6)
+}
