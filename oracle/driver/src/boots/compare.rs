@@ -50,10 +50,10 @@ struct Comparison {
 }
 
 impl Comparison {
-    /// Boots empty lists, in early and in sorted form by turns. Our side boots a second time, from the
+    /// Boots empty lists, two in early form, then two in sorted form. Our side boots a second time, from the
     /// same areas in another order, `mixed`, and in other words.
     fn add(&mut self, source: Source, boot: &Boot, mixed: &Boot) {
-        let sorted = self.boots % 2 == 1;
+        let sorted = self.boots % 4 >= 2;
         let words = if sorted { &EMPTY_TABLES } else { &UNREAD };
         self.boots += 1;
 

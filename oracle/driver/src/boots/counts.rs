@@ -107,25 +107,16 @@ impl Row {
     }
 
     pub fn of_accepted(boot: &Boot, lists: &Lists) -> Vec<Row> {
-        let [pieces, reserved_free, ..] = lists.map(|list| list.into_iter().flatten().collect());
-        let (pieces, reserved): (Vec<Range>, Vec<Range>) = (pieces, reserved_free);
-        let given: Vec<&Area> = boot.general().filter(|area| !is_empty(area, boot.unit)).collect();
-        let frames_of = |area: &&Area| match boot.unit {
-            Unit::Frames => Range { start: area.first, end: area.second },
-            Unit::Bytes => {
-                Range { start: area.first / 4096, end: (area.first + (area.second - 1)) / 4096 }
-            }
-        };
+        let pieces: Vec<Range> = lists[0].iter().flatten().copied().collect();
+        let reserved: Vec<Range> = lists[1].iter().flatten().copied().collect();
+        let given: Vec<Range> = boot.general().filter_map(|area| frames(area, boot.unit)).collect();
         let touch = |a: &Range| reserved.iter().any(|b| a.end + 1 == b.start);
         let seen = [
             (Row::Accepted, true),
             (Row::NoFrame, pieces.is_empty() && reserved.is_empty()),
             (Row::OnlyGeneral, !pieces.is_empty() && reserved.is_empty()),
             (Row::OnlyReserved, pieces.is_empty() && !reserved.is_empty()),
-            (
-                Row::Cut,
-                pieces.iter().any(|piece| !given.iter().map(frames_of).any(|r| r == *piece)),
-            ),
+            (Row::Cut, pieces.iter().any(|piece| !given.contains(piece))),
             (Row::MorePieces, pieces.len() > given.len()),
             (Row::Vanished, pieces.len() < given.len()),
             (Row::Joined, reserved.len() < boot.reserved().count()),
@@ -135,6 +126,16 @@ impl Row {
         ];
         seen.into_iter().filter(|(_, is_so)| *is_so).map(|(row, _)| row).collect()
     }
+}
+
+/// The frames of an area, if it has any.
+fn frames(area: &Area, unit: Unit) -> Option<Range> {
+    let (start, end) = match unit {
+        _ if is_empty(area, unit) => return None,
+        Unit::Frames => (area.first, area.second),
+        Unit::Bytes => (area.first / 4096, (area.first + (area.second - 1)) / 4096),
+    };
+    Some(Range { start, end })
 }
 
 pub struct Counts {

@@ -11,7 +11,7 @@ use crate::domain::{ADDRESS_LIMIT, BYTE_LIMIT, TOP};
 use crate::random::Random;
 use std::collections::HashSet;
 use std::path::Path;
-use std::{fs, io, iter};
+use std::{fs, io};
 
 /// So many boots are taken for each row of the table, from each source.
 const EACH: usize = 7;
@@ -61,15 +61,12 @@ fn answer(boot: &Boot) -> String {
 }
 
 pub fn shown(lists: &Lists) -> String {
-    let list = |(name, slots): (&&str, &_)| {
-        let slots: &[Option<_>; 32] = slots;
-        let ranges = slots
-            .iter()
-            .flatten()
-            .map(|range: &crate::call::Range| format!(" {} {}", range.start, range.end));
-        iter::once(name.to_string()).chain(ranges).collect::<String>()
-    };
-    NAMES.iter().zip(lists).map(list).collect::<Vec<_>>().join(" ")
+    let mut words = Vec::new();
+    for (name, list) in NAMES.iter().zip(lists) {
+        words.push(name.to_string());
+        words.extend(list.iter().flatten().flat_map(|r| [r.start, r.end]).map(|n| n.to_string()));
+    }
+    words.join(" ")
 }
 
 fn list(seed: u64) -> Vec<Boot> {

@@ -7,8 +7,9 @@ use super::area::{Area, Boot, Unit};
 use super::panics;
 use super::record::Lists;
 use crate::call::Range;
+use crate::theirs::{address, ends, frame};
 use frame_allocator::{init, FreeFrames, MemoryRegionType, PhysicalMemoryRegion};
-use memory_structs::{Frame, FrameRange, PhysicalAddress};
+use memory_structs::FrameRange;
 
 /// What the Rust did with a boot.
 #[derive(Clone, Copy)]
@@ -72,19 +73,11 @@ fn region(area: &Area, unit: Unit) -> PhysicalMemoryRegion {
     PhysicalMemoryRegion::new(frames, kind)
 }
 
-fn address(address: u64) -> PhysicalAddress {
-    PhysicalAddress::new(address as usize).expect("a physical address, below 2^52")
-}
-
-fn frame(number: u64) -> Frame {
-    Frame::containing_address(address(number * 4096))
-}
-
 fn lists() -> Lists {
     let slots = FreeFrames::window_slots().expect("a boot leaves its lists in early form");
-    let range = |range: FrameRange| Range {
-        start: range.start().number() as u64,
-        end: range.end().number() as u64,
+    let range = |range: FrameRange| {
+        let [start, end] = ends(&range);
+        Range { start, end }
     };
     slots.map(|list| list.map(|slot| slot.map(range)))
 }
