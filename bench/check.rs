@@ -1,8 +1,9 @@
 //! Times `likhmout_check` of the static library beside `plain::check`.
 
 mod plain;
+mod record;
 
-use plain::{EarlyList, FrameAllocator, PART, PAIRS, SLOTS, WORDS};
+use record::{FrameAllocator, PAIRS, PART, SLOTS, UNUSED, WORDS};
 use std::hint::black_box;
 use std::time::Instant;
 
@@ -14,8 +15,6 @@ fn proved(a: &FrameAllocator, words: &[u64]) -> u64 {
     // The library only reads the words, and reads no more than `len` of them.
     unsafe { likhmout_check(*a, words.as_ptr(), words.len()) }
 }
-
-const UNUSED: EarlyList = EarlyList { starts: [1; SLOTS], ends: [0; SLOTS], used: [false; SLOTS] };
 
 /// Entry `i` of a list: regions of the two kinds take turns, and each has a free chunk.
 fn entry(list: usize, i: usize) -> (u64, u64) {

@@ -1,5 +1,7 @@
 // The calls for C and Rust programs, under C names. `rt staticlib exports` writes the archive that they link.
-// Each returns document 01's number and writes the rest of its answer to `out`; `out` is written whole, refused calls included.
+// Each range or frame call returns document 01's number and writes the rest of its answer to `out`, whole, refused calls included; a
+// call of the allocator returns its answer and the record after it.
 mod answers;
+pub mod boots;
 pub mod ranges;
 pub mod rules_check;

@@ -13,6 +13,7 @@ const FRAME_SIZE: u64 = 4096;
 const ADDRESS_LIMIT: u64 = 1099511627776;
 
 // The frames from `start` to `end`, both included; none where `start` is above `end`.
+#[repr(C)]
 pub struct FrameRange {
     pub start: u64,
     pub end: u64,

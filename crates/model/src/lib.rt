@@ -3,6 +3,7 @@
 use memory_structs::FrameRange;
 
 // What every call answers. `frame` and `count` are 0 where document 01 gives them no meaning.
+#[repr(C)]
 pub struct Answer {
     pub number: u64,
     pub range: FrameRange,
@@ -53,6 +54,7 @@ pub struct FrameAllocator {
 }
 
 // What a call on a record by value hands back: its answer, and the record after it.
+#[repr(C)]
 pub struct Called {
     pub answer: Answer,
     pub allocator: FrameAllocator,

@@ -1,4 +1,4 @@
-//! Our side: the static library of the crate `exports`.
+//! Our side of the range and frame calls: the static library of the crate `exports`.
 
 use crate::call::{Answer, Call, UNWRITTEN, WORDS};
 

@@ -1,4 +1,5 @@
-//! Their side: the Theseus crates. Only `departures.rs` asks them outside document 01's domain.
+//! Their side of the range and frame calls: the Theseus crates. Only `departures.rs` asks them outside
+//! document 01's domain.
 
 use crate::call::{Answer, Call, Range};
 use frame_allocator::FreeFrames;
@@ -53,12 +54,12 @@ pub fn lists_are_untouched() -> bool {
     FreeFrames::window_list_lengths() == [0; 4]
 }
 
-fn address(address: u64) -> PhysicalAddress {
+pub fn address(address: u64) -> PhysicalAddress {
     PhysicalAddress::new(address as usize).expect("a physical address, below 2^52")
 }
 
 /// A frame by its number; the sources make one of an address only.
-fn frame(number: u64) -> Frame {
+pub fn frame(number: u64) -> Frame {
     Frame::containing_address(address(number * 4096))
 }
 
@@ -66,7 +67,7 @@ fn frame_range(range: Range) -> FrameRange {
     FrameRange::new(frame(range.start), frame(range.end))
 }
 
-fn ends(range: &FrameRange) -> [u64; 2] {
+pub fn ends(range: &FrameRange) -> [u64; 2] {
     [range.start().number() as u64, range.end().number() as u64]
 }
 

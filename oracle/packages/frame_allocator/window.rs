@@ -6,13 +6,17 @@
 //! called from everywhere; so the window is a few associated functions of `FreeFrames`.
 //!
 //! Dropping a `Frames` returns its frames to the allocator's lists. Each one made here is held in a
-//! `ManuallyDrop`, so none ever is: the calls compared are functions of their operands alone.
+//! `ManuallyDrop`, so none ever is: the range and frame calls are functions of their operands alone.
+//! What a boot puts in the lists is forgotten before the next one.
 
 use super::*;
 use core::mem::ManuallyDrop;
 
 /// The parts of a split range: before, middle, after.
 pub type Parts = (Option<FrameRange>, FrameRange, Option<FrameRange>);
+
+/// The slots of a list in early form, in stored order.
+pub type Slots = [Option<FrameRange>; 32];
 
 impl FreeFrames {
     /// `Frames::merge`: the merged range, or nothing where it refuses.
@@ -52,6 +56,42 @@ impl FreeFrames {
             GENERAL_REGIONS.lock().len(),
             RESERVED_REGIONS.lock().len(),
         ]
+    }
+
+    /// The slots of the four lists, in the same order. Nothing where a list is in sorted form.
+    pub fn window_slots() -> Option<[Slots; 4]> {
+        Some([
+            slots(&FREE_GENERAL_FRAMES_LIST.lock())?,
+            slots(&FREE_RESERVED_FRAMES_LIST.lock())?,
+            slots(&GENERAL_REGIONS.lock())?,
+            slots(&RESERVED_REGIONS.lock())?,
+        ])
+    }
+
+    /// Empties the four lists, and leaves them in early form, or in sorted form.
+    pub fn window_empty_lists(sorted: bool) {
+        empty(&FREE_GENERAL_FRAMES_LIST, sorted);
+        empty(&FREE_RESERVED_FRAMES_LIST, sorted);
+        empty(&GENERAL_REGIONS, sorted);
+        empty(&RESERVED_REGIONS, sorted);
+    }
+}
+
+fn slots<T: Ord + Deref<Target = FrameRange>>(list: &StaticArrayRBTree<T>) -> Option<Slots> {
+    match &list.0 {
+        Inner::Array(entries) => {
+            Some(core::array::from_fn(|i| entries[i].as_ref().map(|entry| entry.deref().clone())))
+        }
+        Inner::RBTree(_) => None,
+    }
+}
+
+/// Dropping a chunk would put it back into its list, so what the list held is forgotten.
+fn empty<T: Ord + 'static>(list: &Mutex<StaticArrayRBTree<T>>, sorted: bool) {
+    let mut list = list.lock();
+    mem::forget(mem::take(&mut *list));
+    if sorted {
+        list.convert_to_heap_allocated();
     }
 }
 

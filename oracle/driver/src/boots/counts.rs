@@ -1,0 +1,184 @@
+//! How often each thing that can come of a boot did.
+
+use super::area::{Area, Boot, Unit};
+use super::domain::is_empty;
+use super::record::{Lists, SLOTS};
+use crate::call::Range;
+
+/// Where the boots come from.
+#[derive(Clone, Copy, PartialEq, Eq)]
+pub enum Source {
+    SmallWorlds,
+    RandomFrames,
+    RandomBytes,
+}
+
+impl Source {
+    const ALL: [Source; 3] = [Source::SmallWorlds, Source::RandomFrames, Source::RandomBytes];
+}
+
+/// A boot is counted in one row, or, where it is accepted, in `Accepted` and all below it that fit.
+#[derive(Clone, Copy, PartialEq, Eq, Hash)]
+pub enum Row {
+    Accepted,
+    NoFrame,
+    OnlyGeneral,
+    OnlyReserved,
+    Cut,
+    MorePieces,
+    Vanished,
+    Joined,
+    Touching,
+    FullPieces,
+    FullReserved,
+    PiecesMeet,
+    PieceMeetsReserved,
+    TooManyPieces,
+    TooManyReserved,
+    TooManyOfBoth,
+    DecidedFive,
+    DecidedFour,
+    DecidedTwo,
+    BootedTwice,
+}
+
+impl Row {
+    pub const ALL: [Row; 20] = [
+        Row::Accepted,
+        Row::NoFrame,
+        Row::OnlyGeneral,
+        Row::OnlyReserved,
+        Row::Cut,
+        Row::MorePieces,
+        Row::Vanished,
+        Row::Joined,
+        Row::Touching,
+        Row::FullPieces,
+        Row::FullReserved,
+        Row::PiecesMeet,
+        Row::PieceMeetsReserved,
+        Row::TooManyPieces,
+        Row::TooManyReserved,
+        Row::TooManyOfBoth,
+        Row::DecidedFive,
+        Row::DecidedFour,
+        Row::DecidedTwo,
+        Row::BootedTwice,
+    ];
+
+    fn label(self) -> &'static str {
+        match self {
+            Row::Accepted => "accepted",
+            Row::NoFrame => "    no frame at all",
+            Row::OnlyGeneral => "    only general frames",
+            Row::OnlyReserved => "    only reserved frames",
+            Row::Cut => "    a general area is cut",
+            Row::MorePieces => "    more pieces than general areas",
+            Row::Vanished => "    fewer pieces than general areas",
+            Row::Joined => "    reserved areas are joined",
+            Row::Touching => "    touching reserved areas stay two",
+            Row::FullPieces => "    32 pieces",
+            Row::FullReserved => "    32 reserved areas",
+            Row::PiecesMeet => "6, a piece meets a piece",
+            Row::PieceMeetsReserved => "6, a piece meets a reserved area",
+            Row::TooManyPieces => "7",
+            Row::TooManyReserved => "5",
+            Row::TooManyOfBoth => "5, where the Rust comes to 7 first",
+            Row::DecidedFive => "5 (document 01)",
+            Row::DecidedFour => "4 (document 01)",
+            Row::DecidedTwo => "2 (document 01)",
+            Row::BootedTwice => "10, after an accepted one",
+        }
+    }
+
+    /// Whether a few areas in six frames are enough.
+    fn can_occur_in(self, source: Source) -> bool {
+        source != Source::SmallWorlds
+            || !matches!(
+                self,
+                Row::FullPieces
+                    | Row::FullReserved
+                    | Row::TooManyPieces
+                    | Row::TooManyReserved
+                    | Row::TooManyOfBoth
+                    | Row::DecidedFive
+                    | Row::DecidedTwo
+            )
+    }
+
+    pub fn of_accepted(boot: &Boot, lists: &Lists) -> Vec<Row> {
+        let pieces: Vec<Range> = lists[0].iter().flatten().copied().collect();
+        let reserved: Vec<Range> = lists[1].iter().flatten().copied().collect();
+        let given: Vec<Range> = boot.general().filter_map(|area| frames(area, boot.unit)).collect();
+        let touch = |a: &Range| reserved.iter().any(|b| a.end + 1 == b.start);
+        let seen = [
+            (Row::Accepted, true),
+            (Row::NoFrame, pieces.is_empty() && reserved.is_empty()),
+            (Row::OnlyGeneral, !pieces.is_empty() && reserved.is_empty()),
+            (Row::OnlyReserved, pieces.is_empty() && !reserved.is_empty()),
+            (Row::Cut, pieces.iter().any(|piece| !given.contains(piece))),
+            (Row::MorePieces, pieces.len() > given.len()),
+            (Row::Vanished, pieces.len() < given.len()),
+            (Row::Joined, reserved.len() < boot.reserved().count()),
+            (Row::Touching, reserved.iter().any(touch)),
+            (Row::FullPieces, pieces.len() == SLOTS),
+            (Row::FullReserved, reserved.len() == SLOTS),
+        ];
+        seen.into_iter().filter(|(_, is_so)| *is_so).map(|(row, _)| row).collect()
+    }
+}
+
+/// The frames of an area, if it has any.
+fn frames(area: &Area, unit: Unit) -> Option<Range> {
+    let (start, end) = match unit {
+        _ if is_empty(area, unit) => return None,
+        Unit::Frames => (area.first, area.second),
+        Unit::Bytes => (area.first / 4096, (area.first + (area.second - 1)) / 4096),
+    };
+    Some(Range { start, end })
+}
+
+pub struct Counts {
+    boots: [u64; 3],
+    rows: [[u64; 3]; Row::ALL.len()],
+}
+
+impl Counts {
+    pub fn new() -> Counts {
+        Counts { boots: [0; 3], rows: [[0; 3]; Row::ALL.len()] }
+    }
+
+    pub fn add(&mut self, source: Source, rows: &[Row]) {
+        self.boots[source as usize] += 1;
+        rows.iter().for_each(|row| self.rows[*row as usize][source as usize] += 1);
+    }
+
+    /// A boot of one that is booted, which counts as no other boot.
+    pub fn add_second(&mut self, source: Source) {
+        self.rows[Row::BootedTwice as usize][source as usize] += 1;
+    }
+
+    /// What can occur and did not.
+    pub fn faults(&self) -> Vec<String> {
+        let missing = |row: Row| {
+            let never = |source: &Source| {
+                row.can_occur_in(*source) && self.rows[row as usize][*source as usize] == 0
+            };
+            Source::ALL
+                .iter()
+                .any(never)
+                .then(|| format!("boots: never \"{}\"", row.label().trim()))
+        };
+        Row::ALL.into_iter().filter_map(missing).collect()
+    }
+
+    pub fn print(&self) {
+        println!("{:<40}{:>14}{:>14}{:>14}", "boots", "small worlds", "random", "random, bytes");
+        print_row("all", self.boots);
+        Row::ALL.into_iter().for_each(|row| print_row(row.label(), self.rows[row as usize]));
+    }
+}
+
+fn print_row(label: &str, [small, frames, bytes]: [u64; 3]) {
+    println!("{label:<40}{small:>14}{frames:>14}{bytes:>14}");
+}

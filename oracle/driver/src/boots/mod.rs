@@ -1,0 +1,19 @@
+//! Whole boots on both sides: see ../../../README.md.
+
+mod area;
+mod compare;
+mod counts;
+mod departures;
+mod domain;
+mod generate;
+mod judge;
+mod ours;
+mod panics;
+mod record;
+mod replay;
+mod small;
+mod theirs;
+
+pub use compare::compare;
+pub use departures::{ask_rust, show};
+pub use replay::write_list;
