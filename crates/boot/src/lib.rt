@@ -11,6 +11,7 @@ ghost use Rattle.boot.specs.Boots as spec;
 use areas::Collected;
 use areas::Unit;
 use carving::RangeList;
+use lists::WhichList;
 use model::Called;
 use model::FrameAllocator;
 
@@ -54,16 +55,25 @@ fn has_entries(a: FrameAllocator, words: &[u64]) -> bool
     requires { ⌜ keepsRules a (now words) ≡ true ⌝ }
     ensures { λ r. ⌜ r ≡ not (noEntries (load a (now (words .entry)))) ⌝ }
 {
-    if lists::count(lists::general_free(a), &words[0..1024]) != 0 {
+    if has_entry(a, words, WhichList::GeneralFree) {
         return true;
     }
-    if lists::count(lists::reserved_free(a), &words[1024..2048]) != 0 {
+    if has_entry(a, words, WhichList::ReservedFree) {
         return true;
     }
-    if lists::count(lists::general_regions(a), &words[2048..3072]) != 0 {
+    if has_entry(a, words, WhichList::GeneralRegions) {
         return true;
     }
-    lists::count(lists::reserved_regions(a), &words[3072..4096]) != 0
+    has_entry(a, words, WhichList::ReservedRegions)
+}
+
+fn has_entry(a: FrameAllocator, words: &[u64], which: WhichList) -> bool
+    requires { ⌜ 4096 ≤ length (now words) ⌝ }
+    requires { ⌜ keepsRules a (now words) ≡ true ⌝ }
+    ensures { λ r. ⌜ r ≡ spec.hasEntry which (load a (now (words .entry))) ⌝ }
+{
+    let from = lists::part_of(which);
+    lists::count(lists::list_of(a, which), &words[from..from + 1024]) != 0
 }
 
 // Boots a record whose lists are empty.

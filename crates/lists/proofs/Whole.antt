@@ -1,59 +1,70 @@
 -- A record and its workspace are four lists, each with its part of the words: what is said of each list says it of the whole.
-use mathlib.Core.Path.{_≡_, refl}
-use mathlib.Core.Bool.{true, _&&_}
-use mathlib.Core.List.{List, _++_}
-use Prim.Native.Nat.{ℕ, _+_, _≤_}
+use mathlib.Core.Path.{_≡_, refl, sym, ap, _∙_}
+use mathlib.Core.Bool.{Bool, true, _&&_}
+use mathlib.Core.List.{List, _++_, append-assoc}
+use Prim.Native.Nat.{ℕ, _+_, _-_, _≤_}
 use native.Mathlib.Omega.{arith}
-use lib.ListN.{length, drop}
+use lib.ListN.{length, take, drop}
+use lib.Seq.{take-add, drop-drop}
+use borrow.Rule.Slice.PartMut.{putMid}
 use Rattle.memory_structs.proofs.Bools.{both-first, both-second}
-use Rattle.model.specs.Lists.{Lists}
-use Rattle.model.specs.Store.{part, load, recordOf, wordsOf, storedIn, storeRules}
+use Rattle.model.specs.Lists.{Lists, Slot}
+use Rattle.model.specs.Store.{part, load, recordOf, wordsIn, wordsOf, storedIn, storeRules}
 use Rattle.model.specs.declared.FrameAllocator.{FrameAllocator}
-use Rattle.model.proofs.Whole.{length-part}
+use Rattle.model.proofs.Whole.{length-part, part-then}
 use Rattle.lists.specs.declared.OneList.{OneList}
-use Rattle.lists.specs.One.{IsList, slotsIn, Stored}
-use Rattle.lists.specs.Record.{generalFree, reservedFree, generalRegions, reservedRegions, recordFrom}
+use Rattle.lists.specs.declared.record.WhichList.{WhichList}
+use Rattle.lists.specs.declared.record.WhichList.the-variants.{GeneralFree, ReservedFree, GeneralRegions, ReservedRegions}
+use Rattle.lists.specs.One.{IsList, slotsIn, oneOf, Stored}
+use Rattle.lists.specs.Record.{listOf, partOf, slotsAt, withSlots, withList, recordFrom, AllStored}
+use Rattle.lists.proofs.Again.{list-stored}
 
 -- the slots of each part are the list that is loaded
-module _ (a : FrameAllocator) (ws : List ℕ) where
-  pub general-free-slots : slotsIn (generalFree a) (part 0 ws) ≡ load a ws .generalFree
-  unfolding load
-  general-free-slots = refl
+pub loaded : (w : WhichList) (a : FrameAllocator) (ws : List ℕ) → slotsIn (listOf w a) (part (partOf w) ws) ≡ slotsAt w (load a ws)
+unfolding listOf partOf slotsAt load
+loaded GeneralFree a ws = refl
+loaded ReservedFree a ws = refl
+loaded GeneralRegions a ws = refl
+loaded ReservedRegions a ws = refl
 
-  pub reserved-free-slots : slotsIn (reservedFree a) (part 1024 ws) ≡ load a ws .reservedFree
-  unfolding load
-  reserved-free-slots = refl
+pub same-form : (w : WhichList) (a : FrameAllocator) → listOf w a .sorted ≡ a .sorted
+unfolding listOf
+same-form GeneralFree a = refl
+same-form ReservedFree a = refl
+same-form GeneralRegions a = refl
+same-form ReservedRegions a = refl
 
-  pub general-regions-slots : slotsIn (generalRegions a) (part 2048 ws) ≡ load a ws .generalRegions
-  unfolding load
-  general-regions-slots = refl
+pub part-fits : (w : WhichList) → partOf w + 1024 ≤ 4096
+unfolding partOf
+part-fits GeneralFree = omega arith
+part-fits ReservedFree = omega arith
+part-fits GeneralRegions = omega arith
+part-fits ReservedRegions = omega arith
 
-  pub reserved-regions-slots : slotsIn (reservedRegions a) (part 3072 ws) ≡ load a ws .reservedRegions
-  unfolding load
-  reserved-regions-slots = refl
+-- a part that is lent from the number n on
+module _ (w : WhichList) (n : ℕ) (e : n ≡ partOf w) where
+  pub lent-fits : n + 1024 ≤ 4096
+  lent-fits = omega (arith, part-fits w)
+
+  pub lent-part : (ws : List ℕ) → take ((n + 1024) - n) (drop n ws) ≡ part (partOf w) ws
+  lent-part ws =
+      let k : (n + 1024) - n ≡ 1024 = omega arith in
+      (λ i. take (k i) (drop (e i) ws))
 
 -- each part is a list
-pub record FourLists (a : FrameAllocator) (ws : List ℕ) : Type 0 where
-  pub general-free : IsList (generalFree a) (part 0 ws)
-  pub reserved-free : IsList (reservedFree a) (part 1024 ws)
-  pub general-regions : IsList (generalRegions a) (part 2048 ws)
-  pub reserved-regions : IsList (reservedRegions a) (part 3072 ws)
+module _ (a : FrameAllocator) (ws : List ℕ) where
+  abbrev kept : WhichList → Bool
+  kept w = storedIn (listOf w a .sorted) (listOf w a .early) (listOf w a .len) (part (partOf w) ws)
 
-pub four-lists : (a : FrameAllocator) (ws : List ℕ) → 4096 ≤ length ws → storeRules a ws ≡ true → FourLists a ws
-unfolding storeRules
-four-lists a ws h e =
-    let gf = storedIn (a .sorted) (a .«general_free») (a .«general_free_len») (part 0 ws) in
-    let rf = storedIn (a .sorted) (a .«reserved_free») (a .«reserved_free_len») (part 1024 ws) in
-    let gr = storedIn (a .sorted) (a .«general_regions») (a .«general_regions_len») (part 2048 ws) in
-    let rr = storedIn (a .sorted) (a .«reserved_regions») (a .«reserved_regions_len») (part 3072 ws) in
-    let free : (gf && rf) ≡ true = both-first (gf && rf) (gr && rr) e in
-    let regions : (gr && rr) ≡ true = both-second (gf && rf) (gr && rr) e in
-    record {
-      general-free = record { size = length-part 0 ws (omega arith); stored = both-first gf rf free };
-      reserved-free = record { size = length-part 1024 ws (omega arith); stored = both-second gf rf free };
-      general-regions = record { size = length-part 2048 ws (omega arith); stored = both-first gr rr regions };
-      reserved-regions = record { size = length-part 3072 ws (omega arith); stored = both-second gr rr regions };
-    }
+  all-kept : storeRules a ws ≡ true → (w : WhichList) → kept w ≡ true
+  unfolding storeRules listOf partOf
+  all-kept e GeneralFree = both-first (kept GeneralFree) (kept ReservedFree) (both-first (kept GeneralFree && kept ReservedFree) (kept GeneralRegions && kept ReservedRegions) e)
+  all-kept e ReservedFree = both-second (kept GeneralFree) (kept ReservedFree) (both-first (kept GeneralFree && kept ReservedFree) (kept GeneralRegions && kept ReservedRegions) e)
+  all-kept e GeneralRegions = both-first (kept GeneralRegions) (kept ReservedRegions) (both-second (kept GeneralFree && kept ReservedFree) (kept GeneralRegions && kept ReservedRegions) e)
+  all-kept e ReservedRegions = both-second (kept GeneralRegions) (kept ReservedRegions) (both-second (kept GeneralFree && kept ReservedFree) (kept GeneralRegions && kept ReservedRegions) e)
+
+  pub is-list : 4096 ≤ length ws → storeRules a ws ≡ true → (w : WhichList) → IsList (listOf w a) (part (partOf w) ws)
+  is-list h e w = record { size = length-part (partOf w) ws (omega (arith, part-fits w)); stored = all-kept e w }
 
 -- lists that are stored each for itself, put together
 module _ (l : Lists) (ws : List ℕ) {gf rf gr rr : OneList} {w₀ w₁ w₂ w₃ : List ℕ}
@@ -66,3 +77,62 @@ module _ (l : Lists) (ws : List ℕ) {gf rf gr rr : OneList} {w₀ w₁ w₂ w�
   pub words-put : w₀ ++ (w₁ ++ (w₂ ++ (w₃ ++ drop 4096 ws))) ≡ wordsOf l ws
   unfolding wordsOf
   words-put = λ i. p₀ .words i ++ (p₁ .words i ++ (p₂ .words i ++ (p₃ .words i ++ drop 4096 ws)))
+
+-- a part put back, by the parts before and after it
+module _ (ws y : List ℕ) where
+  last-part : drop 3072 ws ≡ part 3072 ws ++ drop 4096 ws
+  last-part = sym (part-then 3072 ws)
+
+  last-parts : drop 2048 ws ≡ part 2048 ws ++ (part 3072 ws ++ drop 4096 ws)
+  last-parts = sym (part-then 2048 ws) ∙ ap (λ (x : List ℕ). part 2048 ws ++ x) last-part
+
+  later-parts : drop 1024 ws ≡ part 1024 ws ++ (part 2048 ws ++ (part 3072 ws ++ drop 4096 ws))
+  later-parts = sym (part-then 1024 ws) ∙ ap (λ (x : List ℕ). part 1024 ws ++ x) last-parts
+
+  put-first : putMid 0 1024 ws y ≡ y ++ (part 1024 ws ++ (part 2048 ws ++ (part 3072 ws ++ drop 4096 ws)))
+  put-first = ap (λ (x : List ℕ). y ++ x) later-parts
+
+  put-second : putMid 1024 1024 ws y ≡ part 0 ws ++ (y ++ (part 2048 ws ++ (part 3072 ws ++ drop 4096 ws)))
+  put-second = ap (λ (x : List ℕ). part 0 ws ++ (y ++ x)) (drop-drop 1024 1024 ws ∙ last-parts)
+
+  put-third : putMid 2048 1024 ws y ≡ part 0 ws ++ (part 1024 ws ++ (y ++ (part 3072 ws ++ drop 4096 ws)))
+  put-third =
+      (λ i. take-add 1024 1024 ws i ++ (y ++ (drop-drop 1024 2048 ws ∙ last-part) i))
+      ∙ append-assoc (part 0 ws) (part 1024 ws) (y ++ (part 3072 ws ++ drop 4096 ws))
+
+  put-fourth : putMid 3072 1024 ws y ≡ part 0 ws ++ (part 1024 ws ++ (part 2048 ws ++ (y ++ drop 4096 ws)))
+  put-fourth =
+      (λ i. (take-add 1024 2048 ws ∙ ap (λ (x : List ℕ). part 0 ws ++ x) (take-add 1024 1024 (drop 1024 ws) ∙ ap (λ (x : List ℕ). part 1024 ws ++ take 1024 x) (drop-drop 1024 1024 ws))) i
+      ++ (y ++ drop-drop 1024 3072 ws i))
+      ∙ append-assoc (part 0 ws) (part 1024 ws ++ part 2048 ws) (y ++ drop 4096 ws)
+      ∙ ap (λ (x : List ℕ). part 0 ws ++ x) (append-assoc (part 1024 ws) (part 2048 ws) (y ++ drop 4096 ws))
+
+-- one list stored in its place, the others as they were
+module _ (a : FrameAllocator) (ws : List ℕ) (h : 4096 ≤ length ws) (e : storeRules a ws ≡ true) where
+  stays : (w : WhichList) → Stored (a .sorted) (slotsAt w (load a ws)) (part (partOf w) ws) (listOf w a) (part (partOf w) ws)
+  stays w =
+      let st = list-stored (listOf w a) (part (partOf w) ws) (is-list a ws h e w) in
+      record {
+        list = st .list ∙ (λ i. oneOf (same-form w a i) (loaded w a ws i));
+        words = st .words ∙ (λ i. wordsIn (same-form w a i) (loaded w a ws i) (part (partOf w) ws));
+      }
+
+  pub put-list : (w : WhichList) (s : List Slot) (l : OneList) (after : List ℕ) → Stored (a .sorted) s (part (partOf w) ws) l after →
+      AllStored (withSlots w (load a ws) s) ws (withList w a l) (putMid (partOf w) 1024 ws after)
+  unfolding withSlots withList slotsAt partOf listOf load
+  put-list GeneralFree s l after st = record {
+    allocator = record-put (withSlots GeneralFree (load a ws) s) ws st (stays ReservedFree) (stays GeneralRegions) (stays ReservedRegions);
+    words = put-first ws after ∙ words-put (withSlots GeneralFree (load a ws) s) ws st (stays ReservedFree) (stays GeneralRegions) (stays ReservedRegions);
+  }
+  put-list ReservedFree s l after st = record {
+    allocator = record-put (withSlots ReservedFree (load a ws) s) ws (stays GeneralFree) st (stays GeneralRegions) (stays ReservedRegions);
+    words = put-second ws after ∙ words-put (withSlots ReservedFree (load a ws) s) ws (stays GeneralFree) st (stays GeneralRegions) (stays ReservedRegions);
+  }
+  put-list GeneralRegions s l after st = record {
+    allocator = record-put (withSlots GeneralRegions (load a ws) s) ws (stays GeneralFree) (stays ReservedFree) st (stays ReservedRegions);
+    words = put-third ws after ∙ words-put (withSlots GeneralRegions (load a ws) s) ws (stays GeneralFree) (stays ReservedFree) st (stays ReservedRegions);
+  }
+  put-list ReservedRegions s l after st = record {
+    allocator = record-put (withSlots ReservedRegions (load a ws) s) ws (stays GeneralFree) (stays ReservedFree) (stays GeneralRegions) st;
+    words = put-fourth ws after ∙ words-put (withSlots ReservedRegions (load a ws) s) ws (stays GeneralFree) (stays ReservedFree) (stays GeneralRegions) st;
+  }

@@ -16,13 +16,13 @@ mod record;
 use early::Wanted;
 use memory_structs::FrameRange;
 use model::EarlyList;
+pub use record::WhichList;
 pub use record::fresh;
-pub use record::general_free;
-pub use record::general_regions;
+pub use record::list_of;
+pub use record::part_of;
 pub use record::record_of;
-pub use record::reserved_free;
-pub use record::reserved_regions;
 pub use record::unused_slots;
+pub use record::with_list;
 use tables::Found;
 
 // In sorted form the list is the first `len` pairs of the table that is lent beside it, and every slot is unused.

@@ -4,11 +4,19 @@ ghost use lib.ListN.{replicate};
 ghost use Rattle.model.specs.Lists.{unused};
 ghost use Rattle.model.specs.Store.{earlyOf};
 ghost use Rattle.model.specs.Calls.{freshRecord};
-ghost use Rattle.lists.specs.Record.{generalFree, reservedFree, generalRegions, reservedRegions, recordFrom};
+ghost use Rattle.lists.specs.Record.{listOf, oneList, partOf, withList, recordFrom};
 use crate::OneList;
 use memory_structs::FrameRange;
 use model::EarlyList;
 use model::FrameAllocator;
+
+// "Four: general free, reserved free, general regions, reserved regions."
+pub enum WhichList {
+    GeneralFree,
+    ReservedFree,
+    GeneralRegions,
+    ReservedRegions,
+}
 
 // 32 slots, none of them used.
 pub fn unused_slots() -> EarlyList
@@ -39,47 +47,53 @@ pub fn fresh() -> FrameAllocator
     }
 }
 
-pub fn general_free(a: FrameAllocator) -> OneList
-    ensures { λ r. ⌜ r ≡ generalFree a ⌝ }
+// The list, as the record has it.
+pub fn list_of(a: FrameAllocator, which: WhichList) -> OneList
+    ensures { λ r. ⌜ r ≡ listOf which a ⌝ }
 {
-    let early = a.general_free;
-    OneList {
-        sorted: a.sorted,
-        early,
-        len: a.general_free_len,
+    match which {
+        WhichList::GeneralFree => one_list(a.sorted, a.general_free, a.general_free_len),
+        WhichList::ReservedFree => one_list(a.sorted, a.reserved_free, a.reserved_free_len),
+        WhichList::GeneralRegions => one_list(a.sorted, a.general_regions, a.general_regions_len),
+        WhichList::ReservedRegions => one_list(
+            a.sorted,
+            a.reserved_regions,
+            a.reserved_regions_len,
+        ),
     }
 }
 
-pub fn reserved_free(a: FrameAllocator) -> OneList
-    ensures { λ r. ⌜ r ≡ reservedFree a ⌝ }
+fn one_list(sorted: bool, early: EarlyList, len: usize) -> OneList
+    ensures { λ r. ⌜ r ≡ oneList sorted early len ⌝ }
 {
-    let early = a.reserved_free;
-    OneList {
-        sorted: a.sorted,
-        early,
-        len: a.reserved_free_len,
+    OneList { sorted, early, len }
+}
+
+// Where its part of the workspace begins; each part has 1,024 words.
+pub fn part_of(which: WhichList) -> usize
+    ensures { λ r. ⌜ r ≡ partOf which ⌝ }
+{
+    match which {
+        WhichList::GeneralFree => 0,
+        WhichList::ReservedFree => 1024,
+        WhichList::GeneralRegions => 2048,
+        WhichList::ReservedRegions => 3072,
     }
 }
 
-pub fn general_regions(a: FrameAllocator) -> OneList
-    ensures { λ r. ⌜ r ≡ generalRegions a ⌝ }
+// The record with this list in its place; the list has the record's form.
+pub fn with_list(a: FrameAllocator, which: WhichList, l: OneList) -> FrameAllocator
+    ensures { λ r. ⌜ r ≡ withList which a l ⌝ }
 {
-    let early = a.general_regions;
-    OneList {
-        sorted: a.sorted,
-        early,
-        len: a.general_regions_len,
-    }
-}
-
-pub fn reserved_regions(a: FrameAllocator) -> OneList
-    ensures { λ r. ⌜ r ≡ reservedRegions a ⌝ }
-{
-    let early = a.reserved_regions;
-    OneList {
-        sorted: a.sorted,
-        early,
-        len: a.reserved_regions_len,
+    let general_free = list_of(a, WhichList::GeneralFree);
+    let reserved_free = list_of(a, WhichList::ReservedFree);
+    let general_regions = list_of(a, WhichList::GeneralRegions);
+    let reserved_regions = list_of(a, WhichList::ReservedRegions);
+    match which {
+        WhichList::GeneralFree => record_of(l, reserved_free, general_regions, reserved_regions),
+        WhichList::ReservedFree => record_of(general_free, l, general_regions, reserved_regions),
+        WhichList::GeneralRegions => record_of(general_free, reserved_free, l, reserved_regions),
+        WhichList::ReservedRegions => record_of(general_free, reserved_free, general_regions, l),
     }
 }
 
