@@ -107,6 +107,7 @@ fn with_next(t: &[u64], len: usize, i: usize, chunk_start: u64, chunk_end: u64, 
     })
 }
 
+// One chunk holds all of the request.
 fn one_chunk(i: usize, start: u64, end: u64) -> Search
     ensures { λ r. ⌜ foundOf r ≡ model.chunks i 1 (range start end) ⌝ }
 {

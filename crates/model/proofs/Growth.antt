@@ -53,7 +53,7 @@ none-above n m [] a h = refl
 none-above n m (unused ∷ s) a h = absurd a
 none-above n m (used x ∷ s) a h = rw (none-above (x .start) m s (a .1) (omega (arith, a .0)), lt-leb (x .start) m (omega (arith, a .0)))
 
-unfoldable pub Lands : FrameRange → List Slot → Place → Type 0
+unfoldable Lands : FrameRange → List Slot → Place → Type 0
 Lands r s nowhere = ⊥
 Lands r s (at i) = rangeAt s i ≡ r
 
@@ -62,7 +62,7 @@ unfolding Lands later orElse rangeAt
 later-lands r x s nowhere o h = absurd h
 later-lands r x s (at i) o h = h
 
-pub last-lands : (r : FrameRange) (s : List Slot) (n : ℕ) → Rising n s → Lands r (insertSorted r s) (lastWhere (λ c. leb (c .start) (r .start)) (insertSorted r s))
+last-lands : (r : FrameRange) (s : List Slot) (n : ℕ) → Rising n s → Lands r (insertSorted r s) (lastWhere (λ c. leb (c .start) (r .start)) (insertSorted r s))
 unfolding Lands lastWhere insertSorted Rising later orElse rangeAt
 last-lands r [] n a = rw (le-leb (r .start) (r .start) (omega arith))
 last-lands r (unused ∷ s) n a = absurd a

@@ -15,7 +15,6 @@ use Rattle.early.proofs.Slots.{range-at}
 use Rattle.lists.proofs.One.{as-table, as-early, at-sorted, at-early}
 use Rattle.chunks.specs.Searches.{foundOf}
 use Rattle.chunks.proofs.Early.{first-bound, slot-holds, none-holds}
-use native.Mathlib.Omega.{arith}
 use borrow.Author.Needs.{needs}
 use Rattle.chunks.proofs.find_specific_chunk.Statement.{statement}
 use Rattle.chunks.proofs.find_specific_chunk.Tie as tie
