@@ -47,7 +47,7 @@ early-met s (at i) h = tt
 
 -- sorted form: it is the last that starts at or below its start
 
-none-above : (n m : ℕ) (s : List Slot) → Rising n s → m < n → lastWhere (λ c. leb (c .start) m) s ≡ nowhere
+pub none-above : (n m : ℕ) (s : List Slot) → Rising n s → m < n → lastWhere (λ c. leb (c .start) m) s ≡ nowhere
 unfolding Rising lastWhere later orElse
 none-above n m [] a h = refl
 none-above n m (unused ∷ s) a h = absurd a
@@ -87,14 +87,14 @@ whole-met false r s h a m = early-met (insertEarly r s) _ (first-somewhere (λ c
 
 -- the missing tail: the last chunk, which holds the first frame, and the tail after it
 
-rising-below : (s : List Slot) (n i : ℕ) → Rising n s → i < length s → n ≤ rangeAt s i .start
+pub rising-below : (s : List Slot) (n i : ℕ) → Rising n s → i < length s → n ≤ rangeAt s i .start
 unfolding Rising rangeAt
 rising-below [] n i a h = absurd (omega arith)
 rising-below (unused ∷ s) n i a h = absurd a
 rising-below (used x ∷ s) n zero a h = a .0
 rising-below (used x ∷ s) n (suc i) a h = omega (arith, a .0, rising-below s (x .start) i (a .1) (omega arith))
 
-tail-rising : (g : FrameRange) (s : List Slot) (n : ℕ) → Rising n s → (i : ℕ) → length s ≡ suc i → rangeAt s i .start < g .start →
+pub tail-rising : (g : FrameRange) (s : List Slot) (n : ℕ) → Rising n s → (i : ℕ) → length s ≡ suc i → rangeAt s i .start < g .start →
     (length (insertSorted g s) ≡ suc (suc i)) × (rangeAt (insertSorted g s) i ≡ rangeAt s i) × (rangeAt (insertSorted g s) (suc i) ≡ g)
 unfolding insertSorted Rising rangeAt
 tail-rising g [] n a i e h = absurd (omega arith)
@@ -108,7 +108,7 @@ tail-rising g (used x ∷ (y ∷ s)) n a (suc i) e h =
     rw (le-ltb (g .start) (x .start) (omega arith)) (ap suc (ih .0), ih .1, ih .2)
 
 -- it does not change which chunk is the last to start at or below m
-last-same : (m : ℕ) (g : FrameRange) (s : List Slot) (n : ℕ) → Rising n s → m < g .start →
+pub last-same : (m : ℕ) (g : FrameRange) (s : List Slot) (n : ℕ) → Rising n s → m < g .start →
     lastWhere (λ c. leb (c .start) m) (insertSorted g s) ≡ lastWhere (λ c. leb (c .start) m) s
 unfolding Rising lastWhere insertSorted later orElse
 last-same m g [] n a h = rw (lt-leb (g .start) m h)
@@ -119,7 +119,7 @@ last-same m g (used x ∷ s) n a h =
     rw (none-above (x .start) m s (a .1) (omega arith), lt-leb (x .start) m (omega arith), lt-leb (g .start) m h))
     (λ e. rw (last-same m g s (x .start) (a .1) h))
 
-used-below : (s : List Slot) (i : ℕ) → Used s i → i < length s
+pub used-below : (s : List Slot) (i : ℕ) → Used s i → i < length s
 unfolding Used
 used-below [] i u = absurd u
 used-below (unused ∷ s) zero u = absurd u
@@ -128,14 +128,14 @@ used-below (unused ∷ s) (suc i) u = omega (arith, used-below s i u)
 used-below (used x ∷ s) (suc i) u = omega (arith, used-below s i u)
 
 -- what a search that misses the tail has found
-record Tail (r : FrameRange) (s : List Slot) (i f n : ℕ) : Type 0 where
-  first : r .start ≤ rangeAt s i .end
-  last : rangeAt s i .end < r .end
-  length : length s ≤ suc i
-  from : f ≡ rangeAt s i .end + 1
-  many : n ≡ r .end - rangeAt s i .end
+pub record Tail (r : FrameRange) (s : List Slot) (i f n : ℕ) : Type 0 where
+  pub first : r .start ≤ rangeAt s i .end
+  pub last : rangeAt s i .end < r .end
+  pub length : length s ≤ suc i
+  pub from : f ≡ rangeAt s i .end + 1
+  pub many : n ≡ r .end - rangeAt s i .end
 
-missing-tail : (r : FrameRange) (s : List Slot) (i f n : ℕ) → inSorted r s (at i) ≡ missing f n → Tail r s i f n
+pub missing-tail : (r : FrameRange) (s : List Slot) (i f n : ℕ) → inSorted r s (at i) ≡ missing f n → Tail r s i f n
 unfolding inSorted withNext
 missing-tail r s i f n h =
     go (ltb (rangeAt s i .end) (r .start)) (leb (r .end) (rangeAt s i .end)) (leb (length s) (suc i))

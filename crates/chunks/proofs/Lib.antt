@@ -1,0 +1,4 @@
+pub mod Table
+pub mod Early
+pub mod Chosen
+pub mod Grown

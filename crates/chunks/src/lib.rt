@@ -1,0 +1,120 @@
+// The search for the chunks of one list that hold a request by address: document 01, "Address, in one list" (000,
+// `find_specific_chunk`).
+ghost use mathlib.Core.Path.{_≡_};
+ghost use mathlib.Core.Bool.{true};
+ghost use Prim.Native.Nat.{suc, _*_, _≤_, _<_};
+ghost use lib.ListN.{length};
+ghost use Rattle.memory_structs.specs.Range.{range};
+ghost use Rattle.model.specs.Lists.{at, rangeAt};
+ghost use Rattle.model.specs.Rules.{rising, tidy};
+ghost use Rattle.model.specs.Store.{tableSlots};
+ghost use Rattle.model.specs.Requests as model;
+ghost use Rattle.lists.specs.One.{IsList, slotsIn};
+ghost use Rattle.chunks.specs.Searches.{foundOf};
+use early::Wanted;
+use grants::Chosen;
+use lists::OneList;
+use memory_structs::FrameRange;
+use tables::Found;
+
+// "*missing* (first absent frame, how many absent)"
+pub struct Absent {
+    pub frame: u64,
+    pub count: u64,
+}
+
+// What a search by address finds in one list.
+pub enum Search {
+    NotFound,
+    Missing(Absent),
+    // Two chunks are not enough, refusal 17.
+    TooShort,
+    Chunks(Chosen),
+}
+
+// The chunks that hold every frame from start to end, or why there are none.
+pub fn find_specific_chunk(l: OneList, t: &[u64], start: u64, end: u64) -> Search
+    requires { ⌜ IsList l (now t) ⌝ }
+    requires { ⌜ tidy (l .sorted) (slotsIn l (now t)) ≡ true ⌝ }
+    requires { ⌜ start ≤ end ⌝ }
+    ensures { λ r. ⌜ foundOf r ≡ model.find (l .sorted) (range start end) (slotsIn l (now (t .entry))) ⌝ }
+{
+    if l.sorted {
+        return find_in_table(t, l.len, start, end);
+    }
+    let e = l.early;
+    match early::first_wanted(e, Wanted::Holding(FrameRange::new(start, end))) {
+        Found::At(i) => one_chunk(i, e.starts[i], e.ends[i]),
+        Found::Nowhere => Search::NotFound,
+    }
+}
+
+// The search in a table: by halving for the one chunk that can hold the first frame.
+fn find_in_table(t: &[u64], len: usize, start: u64, end: u64) -> Search
+    requires { ⌜ 2 * len ≤ length (now t) ⌝ }
+    requires { ⌜ rising 0 (tableSlots len (now t)) ≡ true ⌝ }
+    ensures { λ r. ⌜ foundOf r ≡ model.find true (range start end) (tableSlots len (now (t .entry))) ⌝ }
+{
+    match tables::highest_at_or_below(t, len, start) {
+        Found::At(i) => from_chunk(t, len, i, start, end),
+        Found::Nowhere => Search::NotFound,
+    }
+}
+
+// The pair at i is the highest that starts at or below the request.
+fn from_chunk(t: &[u64], len: usize, i: usize, start: u64, end: u64) -> Search
+    requires { ⌜ (2 * len ≤ length (now t)) × (i < len) ⌝ }
+    ensures { λ r. ⌜ foundOf r ≡ model.inSorted (range start end) (tableSlots len (now (t .entry))) (at i) ⌝ }
+{
+    let chunk_start = t[2 * i];
+    let chunk_end = t[2 * i + 1];
+    if chunk_end < start {
+        return Search::NotFound;
+    }
+    if end <= chunk_end {
+        return one_chunk(i, chunk_start, chunk_end);
+    }
+    with_next(t, len, i, chunk_start, chunk_end, end)
+}
+
+// The pair at i holds the first frame and not the last: only the pair after it can help.
+fn with_next(t: &[u64], len: usize, i: usize, chunk_start: u64, chunk_end: u64, end: u64) -> Search
+    requires { ⌜ (2 * len ≤ length (now t)) × (i < len) ⌝ }
+    requires { ⌜ «chunk_end» < end ⌝ }
+    ensures { λ r. ⌜ foundOf r ≡ model.withNext (tableSlots len (now (t .entry))) i end (range «chunk_start» «chunk_end») (rangeAt (tableSlots len (now (t .entry))) (suc i)) ⌝ }
+{
+    // The first frame that the pair at i lacks.
+    let after = chunk_end + 1;
+    let next = i + 1;
+    if len <= next {
+        return Search::Missing(Absent {
+            frame: after,
+            count: end - chunk_end,
+        });
+    }
+    if t[2 * next] != after {
+        return Search::NotFound;
+    }
+    let next_end = t[2 * next + 1];
+    if next_end < end {
+        return Search::TooShort;
+    }
+    Search::Chunks(Chosen {
+        first: i,
+        many: 2,
+        start: chunk_start,
+        end: next_end,
+    })
+}
+
+// One chunk holds all of the request.
+fn one_chunk(i: usize, start: u64, end: u64) -> Search
+    ensures { λ r. ⌜ foundOf r ≡ model.chunks i 1 (range start end) ⌝ }
+{
+    Search::Chunks(Chosen {
+        first: i,
+        many: 1,
+        start,
+        end,
+    })
+}
