@@ -1,6 +1,7 @@
 -- The test of the rules. The words in quotes are document 01's.
-use Prim.Native.Nat.{ℕ}
-use mathlib.Core.Bool.{Bool, not, _&&_}
+use Prim.Native.Nat.{ℕ, _≤_}
+use mathlib.Core.Path.{_≡_}
+use mathlib.Core.Bool.{Bool, true, not, _&&_}
 use mathlib.Core.List.{List}
 use lib.ListN.{length}
 use lib.Dec.{ltb}
@@ -8,8 +9,8 @@ use Rattle.memory_structs.specs.Choice.{if_then_else_}
 use Rattle.memory_structs.specs.Range.{meets}
 use Rattle.model.specs.Lists.{Lists, Slot, entries, anyOf, allOf, inUnion}
 use Rattle.model.specs.Rules.{tidy}
-use Rattle.model.specs.Store.{slotsIn, storedIn, part}
-use Rattle.model.specs.Requests.{withoutFrames}
+use Rattle.model.specs.Store.{slotsIn, storedIn, part, recordOf, wordsOf}
+use Rattle.model.specs.Requests.{Result, withoutFrames}
 use Rattle.model.specs.Calls.{keepsRules}
 use Rattle.model.specs.declared.Called.{Called}
 use Rattle.model.specs.declared.EarlyList.{EarlyList}
@@ -30,6 +31,17 @@ refusedWith n a = record { answer = withoutFrames n 0; allocator = a }
 -- kind [..], or else 0": where no range is granted
 abbrev pub acceptedWith : ℕ → FrameAllocator → Called
 acceptedWith k a = record { answer = withoutFrames 0 k; allocator = a }
+
+-- what 0 says of a record and its words: a call may go on
+pub record Ruled (a : FrameAllocator) (ws : List ℕ) : Type 0 where
+  pub long : 4096 ≤ length ws
+  pub keeps : keepsRules a ws ≡ true
+
+-- what a call that goes on does: the answer, and the record and every word that store the lists after it
+pub record Does (r : Result) (before : List ℕ) (called : Called) (after : List ℕ) : Type 0 where
+  pub answers : called .answer ≡ r .answer
+  pub records : called .allocator ≡ recordOf (r .lists)
+  pub words : after ≡ wordsOf (r .lists) before
 
 -- The rules again, in the order of the test: each list by itself, then one list beside another. `in-order` (proofs/Split) says that they
 -- are the same.

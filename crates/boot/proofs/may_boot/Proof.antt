@@ -1,7 +1,7 @@
 -- `may_boot`: the number of the test, then 10.
 use mathlib.Core.Path.{_≡_, sym, _∙_}
 use Rattle.rules.specs.Check.{checked}
-use Rattle.rules.proofs.Numbers.{checked-sound}
+use Rattle.rules.proofs.Numbers.{checked-ruled}
 use Rattle.boot.proofs.Given.{number-first, ten, may}
 use borrow.Author.Tests.{not-true, not-false}
 use borrow.Author.Needs.{needs}
@@ -20,7 +20,7 @@ passed c = sym (c .before .check .ensures) ∙ c .if1 .left
 
 has-entries-requires : tie.Need-has-entries-requires
 has-entries-requires c κs =
-    let s = checked-sound _ _ (passed c) in
+    let s = checked-ruled _ _ (passed c) in
     (s .long, s .keeps)
 
 returns-2 : tie.Need-returns-2
