@@ -6,10 +6,12 @@ use mathlib.Core.Bool.{Bool, true, false}
 use mathlib.Core.List.{List, [], _∷_}
 use lib.ListN.{length}
 use lib.Dec.{ltb}
+use borrow.Author.Tests.{lt-ltb}
 use Rattle.memory_structs.specs.Choice.{if_then_else_}
 use Rattle.model.specs.Lists.{Slot, unused, used, entries, rangeAt, remove, removeOne}
 use Rattle.model.specs.Requests.{entriesAfter}
-use Rattle.model.proofs.Stored.{Storable, early, sorted}
+use Rattle.model.specs.Store.{tableSlots}
+use Rattle.model.proofs.Stored.{Storable, early, sorted, table-length, table-used}
 use Rattle.model.proofs.Whole.{used-count}
 use Rattle.lists.proofs.One.{length-removed}
 use Rattle.lists.proofs.Again.{removed-storable}
@@ -61,3 +63,12 @@ module _ (c : Chosen) (start end : ℕ) where
       → entriesLeft b c start end s ≡ length (entries s) - c .many + (if ltb (c .start) start then 1 else 0) + (if ltb end (c .end) then 1 else 0)
   unfolding entriesLeft entriesAfter
   left-is v chosen = omega (arith, taken-out v chosen)
+
+-- a table has room for both parts
+pub room-for-two : (len : ℕ) (ws : List ℕ) (c : Chosen) (start end : ℕ) → len ≤ 512 → Chooses true (tableSlots len ws) c start end → c .start < start → end < c .end
+    → entriesLeft true c start end (tableSlots len ws) ≤ 512 → len + 2 ≤ c .many + 512
+room-for-two len ws c start end h chosen p q few =
+    let s : List Slot = tableSlots len ws in
+    let v : Storable true s = sorted (table-used len ws) (omega (arith, table-length len ws)) in
+    let two : entriesLeft true c start end s ≡ length (entries s) - c .many + 1 + 1 = rw (lt-ltb (c .start) start p, lt-ltb end (c .end) q) at (left-is c start end v chosen) in
+    omega (arith, two, taken-out c start end v chosen, all-used v, table-length len ws)

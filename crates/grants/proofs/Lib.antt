@@ -1,3 +1,4 @@
 pub mod Entries
 pub mod Places
 pub mod Grant
+pub mod Rewritten
