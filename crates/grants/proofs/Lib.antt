@@ -2,3 +2,4 @@ pub mod Entries
 pub mod Places
 pub mod Grant
 pub mod Rewritten
+pub mod Slots
