@@ -30,17 +30,23 @@ pub fn entries_after(l: OneList, t: &[u64], chosen: Chosen, start: u64, end: u64
     ensures { λ r. ⌜ r ≡ entriesLeft (l .sorted) chosen start end (slotsIn l (now (t .entry))) ⌝ }
 {
     let mut n = lists::count(l, t) - chosen.many;
-    if chosen.start < start {
+    if chosen.start != start {
         n += 1;
     }
-    if end < chosen.end {
+    if chosen.end != end {
         n += 1;
     }
     n
 }
 
 // "Leftovers go back in the same call, before first, then after, unmerged."
-pub fn allocate_from_chosen_chunk(mut l: OneList, t: &mut [u64], chosen: Chosen, start: u64, end: u64) -> OneList
+pub fn allocate_from_chosen_chunk(
+    mut l: OneList,
+    t: &mut [u64],
+    chosen: Chosen,
+    start: u64,
+    end: u64,
+) -> OneList
     requires { ⌜ IsList l (now t) ⌝ }
     requires { ⌜ tidy (l .sorted) (slotsIn l (now t)) ≡ true ⌝ }
     requires { ⌜ Chooses (l .sorted) (slotsIn l (now t)) chosen start end ⌝ }
@@ -79,17 +85,17 @@ fn allocate_from_table(t: &mut [u64], len: usize, chosen: Chosen, start: u64, en
     requires { ⌜ entriesLeft true chosen start end (tableSlots len (now t)) ≤ 512 ⌝ }
     ensures { λ r. ⌜ TableOf (grantOf true chosen start end (tableSlots len (now (t .entry)))) r (now (t .exit)) ⌝ }
 {
-    if chosen.start < start {
-        if end < chosen.end {
-            return leave_two(t, len, chosen, start, end);
+    if chosen.start == start {
+        if chosen.end == end {
+            tables::remove_at(t, len, chosen.first, chosen.many);
+            return len - chosen.many;
         }
-        return leave_one(t, len, chosen.first, chosen.many, chosen.start, start - 1);
-    }
-    if end < chosen.end {
         return leave_one(t, len, chosen.first, chosen.many, end + 1, chosen.end);
     }
-    tables::remove_at(t, len, chosen.first, chosen.many);
-    len - chosen.many
+    if chosen.end == end {
+        return leave_one(t, len, chosen.first, chosen.many, chosen.start, start - 1);
+    }
+    leave_two(t, len, chosen, start, end)
 }
 
 // Of the pairs from `first` on, `many` of them, one is left: the first is rewritten where it stands, the others are taken out.
@@ -119,5 +125,12 @@ fn leave_two(t: &mut [u64], len: usize, chosen: Chosen, start: u64, end: u64) ->
         tables::insert(t, len, end + 1, chosen.end);
         return len + 1;
     }
-    leave_one(t, len, chosen.first + 1, chosen.many - 1, end + 1, chosen.end)
+    leave_one(
+        t,
+        len,
+        chosen.first + 1,
+        chosen.many - 1,
+        end + 1,
+        chosen.end,
+    )
 }

@@ -40,11 +40,12 @@ add-n c = search needs
 -- with the part before
 with-before : (c : tie.Joined1) → let s = c .before .before .before .before .before in c .if1 .n ≡ others s + part (s .args .chosen .start) (s .args .start)
 with-before c =
-    let a = c .before .before .before .before .before .args in
+    let s = c .before .before .before .before .before in
+    let a = s .args in
     let n = c .before .before .before .count .ensures in
     ⊎-elim
-    (λ w. omega (arith, n, one-part (a .chosen .start) (a .start) (w .0 .taken)))
-    (λ w. omega (arith, n, no-part (a .chosen .start) (a .start) (w .0 .left))) (c .if1 .came)
+    (λ w. omega (arith, n, one-part (a .chosen .start) (a .start) (omega (arith, w .0 .taken, s .pre .1 .from))))
+    (λ w. omega (arith, n, no-part (a .chosen .start) (a .start) (omega (arith, w .0 .left)))) (c .if1 .came)
 
 add-n-2 : tie.Need-add-n-2
 add-n-2 c =
@@ -56,13 +57,13 @@ returns : tie.Need-returns
 returns c =
     let j = c .before .before .before in
     let s = j .before .before .before .before .before in
-    omega (arith, with-before j, left s, one-part (s .args .end) (s .args .chosen .end) (c .before .if2 .taken))
+    omega (arith, with-before j, left s, one-part (s .args .end) (s .args .chosen .end) (omega (arith, c .before .if2 .taken, s .pre .1 .to)))
 
 returns-2 : tie.Need-returns-2
 returns-2 c =
     let j = c .before .before in
     let s = j .before .before .before .before .before in
-    omega (arith, with-before j, left s, no-part (s .args .end) (s .args .chosen .end) (c .if2 .left))
+    omega (arith, with-before j, left s, no-part (s .args .end) (s .args .chosen .end) (omega (arith, c .if2 .left)))
 
 pub entries-after-spec : {M : Type 1} → statement M
 entries-after-spec = tie.close (tie.spec count-requires sub-n add-n add-n-2 returns returns-2)
