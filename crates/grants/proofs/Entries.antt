@@ -19,18 +19,18 @@ use Rattle.lists.proofs.Again.{removed-storable}
 use Rattle.grants.specs.declared.Chosen.{Chosen}
 use Rattle.grants.specs.Grants.{Chooses, entriesLeft}
 
--- 1 for a part that is left between a and b, else 0
-abbrev pub part : ℕ → ℕ → ℕ
-part a b = if ltb a b then 1 else 0
+-- 1 where something is left over between a and b, else 0
+abbrev pub leftover : ℕ → ℕ → ℕ
+leftover a b = if ltb a b then 1 else 0
 
-pub one-part : (a b : ℕ) → a < b → part a b ≡ 1
-one-part a b h = rw (lt-ltb a b h)
+pub one-leftover : (a b : ℕ) → a < b → leftover a b ≡ 1
+one-leftover a b h = rw (lt-ltb a b h)
 
-pub no-part : (a b : ℕ) → b ≤ a → part a b ≡ 0
-no-part a b h = rw (le-ltb a b h)
+pub no-leftover : (a b : ℕ) → b ≤ a → leftover a b ≡ 0
+no-leftover a b h = rw (le-ltb a b h)
 
-pub part-bound : (a b : ℕ) → part a b ≤ 1
-part-bound a b = if-cases (λ (n : ℕ). n ≤ 1) (ltb a b) (λ e. omega arith) (λ e. omega arith)
+pub leftover-bound : (a b : ℕ) → leftover a b ≤ 1
+leftover-bound a b = if-cases (λ (n : ℕ). n ≤ 1) (ltb a b) (λ e. omega arith) (λ e. omega arith)
 
 few-used : (s : List Slot) → length (entries s) ≤ length s
 unfolding entries
@@ -74,7 +74,7 @@ module _ (c : Chosen) (start end : ℕ) where
       )
 
   pub left-is : {b : Bool} {s : List Slot} → Storable b s → Chooses b s c start end
-      → entriesLeft b c start end s ≡ length (entries s) - c .many + part (c .start) start + part end (c .end)
+      → entriesLeft b c start end s ≡ length (entries s) - c .many + leftover (c .start) start + leftover end (c .end)
   unfolding entriesLeft entriesAfter
   left-is v chosen = omega (arith, taken-out v chosen)
 
@@ -84,4 +84,4 @@ pub room-for-two : (len : ℕ) (ws : List ℕ) (c : Chosen) (start end : ℕ) �
 room-for-two len ws c start end h chosen p q few =
     let s : List Slot = tableSlots len ws in
     let v : Storable true s = sorted (table-used len ws) (omega (arith, table-length len ws)) in
-    omega (arith, left-is c start end v chosen, one-part (c .start) start p, one-part end (c .end) q, taken-out c start end v chosen, all-used v, table-length len ws)
+    omega (arith, left-is c start end v chosen, one-leftover (c .start) start p, one-leftover end (c .end) q, taken-out c start end v chosen, all-used v, table-length len ws)

@@ -10,7 +10,8 @@ use Rattle.model.specs.Requests.{grantFrom, entriesAfter}
 use Rattle.model.specs.Store.{tableWords}
 use Rattle.grants.specs.declared.Chosen.{Chosen}
 
--- the chunks stand in the list from `first` on, and the request lies in the range from the start of the first to the end of the last
+-- the chunks stand in the list from `first` on, and the request lies in the range from the start of the first to the end of the last.
+-- So the chunk of an early list is in use: an unused slot has no frame, and the request has one.
 pub record Chooses (sorted : Bool) (s : List Slot) (c : Chosen) (start end : ℕ) : Type 0 where
   pub some : 0 < c .many
   pub in-list : c .first + c .many ≤ length s
