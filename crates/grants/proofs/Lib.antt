@@ -1,0 +1,5 @@
+pub mod Entries
+pub mod Places
+pub mod Grant
+pub mod Rewritten
+pub mod Slots
