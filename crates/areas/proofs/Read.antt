@@ -12,62 +12,67 @@ use Rattle.model.specs.Lists.{anyOf}
 use Rattle.model.specs.Boot as model
 use Rattle.model.specs.declared.Kind.{Kind}
 use Rattle.model.specs.declared.Kind.the-variants.{General, Reserved}
-use Rattle.areas.specs.declared.Unit.{Unit}
-use Rattle.areas.specs.declared.Unit.the-variants.{Frames, Bytes}
-use Rattle.areas.specs.Areas.{kindOf, areasIn, byteAreasIn, inFrames, inBytes, areaOf, read, extents, anyOutside}
+use Rattle.areas.specs.declared.AreaUnit.{AreaUnit}
+use Rattle.areas.specs.declared.AreaUnit.the-variants.{Frames, Bytes}
+use Rattle.areas.specs.Areas.{kindOfWord, triples, areasIn, byteAreasIn, frameArea, byteArea, areaOf, read, extents, anyOutside}
 
 -- one area
-pub general-word : (k : ℕ) → k ≡ 0 → General ≡ kindOf k
-unfolding kindOf
+pub general-word : (k : ℕ) → k ≡ 0 → General ≡ kindOfWord k
+unfolding kindOfWord
 general-word k e = rw e
 
-pub reserved-word : (k : ℕ) → (k ≡ 0 → ⊥) → Reserved ≡ kindOf k
-unfolding kindOf
+pub reserved-word : (k : ℕ) → (k ≡ 0 → ⊥) → Reserved ≡ kindOfWord k
+unfolding kindOfWord
 reserved-word zero n = absurd (n refl)
 reserved-word (suc k) n = refl
 
-pub frames-area : (s e : ℕ) (k : Kind) (o : Bool) → o ≡ aboveTop (range s e) → record { start = s; end = e; kind = k; outside = o } ≡ inFrames s e k
-unfolding inFrames
+pub frames-area : (s e : ℕ) (k : Kind) (o : Bool) → o ≡ aboveTop (range s e) → record { start = s; end = e; kind = k; outside = o } ≡ frameArea s e k
+unfolding frameArea
 frames-area s e k o p = λ i. record { start = s; end = e; kind = k; outside = p i }
 
-pub bytes-area : (a b : ℕ) (k : Kind) (r : FrameRange) (o : Bool) → r ≡ touched a b → o ≡ bytesOutOfBounds a b → record { start = r .start; end = r .end; kind = k; outside = o } ≡ inBytes a b k
-unfolding inBytes
+pub bytes-area : (a b : ℕ) (k : Kind) (r : FrameRange) (o : Bool) → r ≡ touched a b → o ≡ bytesOutOfBounds a b → record { start = r .start; end = r .end; kind = k; outside = o } ≡ byteArea a b k
+unfolding byteArea
 bytes-area a b k r o p q = λ i. record { start = p i .start; end = p i .end; kind = k; outside = q i }
 
-pub frames-unit : (u : Unit) (x y k : ℕ) (kind : Kind) → u ≡ Frames → kind ≡ kindOf k → inFrames x y kind ≡ areaOf u x y k
+pub frames-unit : (u : AreaUnit) (x y k : ℕ) (kind : Kind) → u ≡ Frames → kind ≡ kindOfWord k → frameArea x y kind ≡ areaOf u x y k
 unfolding areaOf
 frames-unit u x y k kind e p = rw (e, p) refl
 
-pub bytes-unit : (u : Unit) (x y k : ℕ) (kind : Kind) → u ≡ Bytes → kind ≡ kindOf k → inBytes x y kind ≡ areaOf u x y k
+pub bytes-unit : (u : AreaUnit) (x y k : ℕ) (kind : Kind) → u ≡ Bytes → kind ≡ kindOfWord k → byteArea x y kind ≡ areaOf u x y k
 unfolding areaOf
 bytes-unit u x y k kind e p = rw (e, p) refl
 
-next-three : (u : Unit) (ws : List ℕ) (i : ℕ) → i + 3 ≤ length ws →
-    read u (drop i ws) ≡ areaOf u (getD ws i 0) (getD ws (suc i) 0) (getD ws (suc (suc i)) 0) ∷ read u (drop (suc (suc (suc i))) ws)
-unfolding read
-next-three u [] i h = absurd (omega arith)
-next-three u (x ∷ []) zero h = absurd (omega arith)
-next-three u (x ∷ y ∷ []) zero h = absurd (omega arith)
-next-three u (x ∷ y ∷ k ∷ ws) zero h = refl
-next-three u (x ∷ ws) (suc i) h = next-three u ws i (omega arith)
+-- the three words from i on, and those after them
+module _ {A : Type 0} (f : ℕ → ℕ → ℕ → A) where
+  next-three : (ws : List ℕ) (i : ℕ) → i + 3 ≤ length ws →
+      triples f (drop i ws) ≡ f (getD ws i 0) (getD ws (suc i) 0) (getD ws (suc (suc i)) 0) ∷ triples f (drop (suc (suc (suc i))) ws)
+  unfolding triples
+  next-three [] i h = absurd (omega arith)
+  next-three (x ∷ []) zero h = absurd (omega arith)
+  next-three (x ∷ y ∷ []) zero h = absurd (omega arith)
+  next-three (x ∷ y ∷ k ∷ ws) zero h = refl
+  next-three (x ∷ ws) (suc i) h = next-three ws i (omega arith)
+
+  -- fewer than three words are nothing
+  none-left : (ws : List ℕ) (i : ℕ) → length ws < i + 3 → triples f (drop i ws) ≡ []
+  unfolding triples
+  none-left [] zero h = refl
+  none-left [] (suc i) h = refl
+  none-left (x ∷ []) zero h = refl
+  none-left (x ∷ y ∷ []) zero h = refl
+  none-left (x ∷ y ∷ k ∷ ws) zero h = absurd (omega arith)
+  none-left (x ∷ ws) (suc i) h = none-left ws i (omega arith)
 
 -- the area of the three words from i on, and those after it
-pub read-next : (u : Unit) (ws : List ℕ) (i : ℕ) → i + 3 ≤ length ws →
+pub read-next : (u : AreaUnit) (ws : List ℕ) (i : ℕ) → i + 3 ≤ length ws →
     read u (drop i ws) ≡ areaOf u (getD ws i 0) (getD ws (i + 1) 0) (getD ws (i + 2) 0) ∷ read u (drop (i + 3) ws)
-read-next u ws i h = simp unary-clauses (next-three u ws i h)
+read-next u ws i h = simp unary-clauses (next-three (areaOf u) ws i h)
 
--- fewer than three words are no area
-pub read-end : (u : Unit) (ws : List ℕ) (i : ℕ) → length ws < i + 3 → read u (drop i ws) ≡ []
-unfolding read
-read-end u [] zero h = refl
-read-end u [] (suc i) h = refl
-read-end u (x ∷ []) zero h = refl
-read-end u (x ∷ y ∷ []) zero h = refl
-read-end u (x ∷ y ∷ k ∷ ws) zero h = absurd (omega arith)
-read-end u (x ∷ ws) (suc i) h = read-end u ws i (omega arith)
+pub read-end : (u : AreaUnit) (ws : List ℕ) (i : ℕ) → length ws < i + 3 → read u (drop i ws) ≡ []
+read-end u ws i h = none-left (areaOf u) ws i h
 
 -- what is read is the areas of the model, and 2 refuses the same
-pub record Reads (u : Unit) (ws : List ℕ) (xs : List model.Extent) (outside : Bool) : Type 0 where
+pub record Reads (u : AreaUnit) (ws : List ℕ) (xs : List model.Extent) (outside : Bool) : Type 0 where
   pub extents-are : extents (read u ws) ≡ xs
   pub outside-is : anyOutside (read u ws) ≡ outside
 
@@ -77,27 +82,27 @@ range-of General r = refl
 range-of Reserved r = refl
 
 pub frames-read : (ws : List ℕ) → Reads Frames ws (model.inFrames (areasIn ws)) (anyOf aboveTop (model.ranges (model.inFrames (areasIn ws))))
-unfolding read areasIn areaOf inFrames extents anyOutside model.inFrames model.ranges anyOf
+unfolding triples areaOf frameArea extents anyOutside model.inFrames model.ranges anyOf
 frames-read [] = record { extents-are = refl; outside-is = refl }
 frames-read (x ∷ []) = record { extents-are = refl; outside-is = refl }
 frames-read (x ∷ y ∷ []) = record { extents-are = refl; outside-is = refl }
 frames-read (x ∷ y ∷ k ∷ ws) =
     let rest = frames-read ws in
     record {
-      extents-are = ap (λ (l : List model.Extent). model.marked (kindOf k) (range x y) ∷ l) (rest .extents-are);
+      extents-are = ap (λ (l : List model.Extent). model.marked (kindOfWord k) (range x y) ∷ l) (rest .extents-are);
       outside-is =
           ap (λ (b : Bool). aboveTop (range x y) || b) (rest .outside-is)
-          ∙ ap (λ (r : FrameRange). aboveTop r || anyOf aboveTop (model.ranges (model.inFrames (areasIn ws)))) (sym (range-of (kindOf k) (range x y)));
+          ∙ ap (λ (r : FrameRange). aboveTop r || anyOf aboveTop (model.ranges (model.inFrames (areasIn ws)))) (sym (range-of (kindOfWord k) (range x y)));
     }
 
 pub bytes-read : (ws : List ℕ) → Reads Bytes ws (model.inBytes (byteAreasIn ws)) (model.anyOutOfBounds (byteAreasIn ws))
-unfolding read byteAreasIn areaOf inBytes extents anyOutside model.inBytes model.anyOutOfBounds
+unfolding triples areaOf byteArea extents anyOutside model.inBytes model.anyOutOfBounds
 bytes-read [] = record { extents-are = refl; outside-is = refl }
 bytes-read (x ∷ []) = record { extents-are = refl; outside-is = refl }
 bytes-read (x ∷ y ∷ []) = record { extents-are = refl; outside-is = refl }
 bytes-read (x ∷ y ∷ k ∷ ws) =
     let rest = bytes-read ws in
     record {
-      extents-are = ap (λ (l : List model.Extent). model.marked (kindOf k) (touched x y) ∷ l) (rest .extents-are);
+      extents-are = ap (λ (l : List model.Extent). model.marked (kindOfWord k) (touched x y) ∷ l) (rest .extents-are);
       outside-is = ap (λ (b : Bool). bytesOutOfBounds x y || b) (rest .outside-is);
     }

@@ -12,7 +12,7 @@ use Rattle.model.specs.Carving.{pieces}
 use Rattle.model.specs.declared.Kind.the-variants.{General, Reserved}
 use Rattle.carving.specs.declared.RangeList.{RangeList}
 use Rattle.carving.specs.Ranges.{listed, Appended}
-use Rattle.areas.specs.declared.Unit.{Unit}
+use Rattle.areas.specs.declared.AreaUnit.{AreaUnit}
 use Rattle.areas.specs.declared.BootArea.{BootArea}
 use Rattle.areas.specs.declared.Collected.{Collected}
 use Rattle.areas.specs.Areas.{areaOf, read, extents, anyOutside, reservedIn, piecesIn, Collects, Adds}
@@ -106,10 +106,10 @@ carved rs xs a before after e s =
     s (piecesIn rs xs) e ∙ ap listed (sym (ap (allPieces rs) (extents-over xs (a ∷ [])) ∙ pieces-over rs (extents xs) (extents (a ∷ []))))
 
 -- the loops: the areas in the words before i, and those that are left
-abbrev pub areaAt : Unit → List ℕ → ℕ → BootArea
+abbrev pub areaAt : AreaUnit → List ℕ → ℕ → BootArea
 areaAt u ws i = areaOf u (getD ws i 0) (getD ws (i + 1) 0) (getD ws (i + 2) 0)
 
-module _ (u : Unit) (ws : List ℕ) (i : ℕ) (done : List BootArea) (is : read u ws ≡ done ++ read u (drop i ws)) where
+module _ (u : AreaUnit) (ws : List ℕ) (i : ℕ) (done : List BootArea) (is : read u ws ≡ done ++ read u (drop i ws)) where
   read-on : i + 3 ≤ length ws → read u ws ≡ (done ++ areaAt u ws i ∷ []) ++ read u (drop (i + 3) ws)
   read-on h =
       is ∙ ap (λ (x : List BootArea). done ++ x) (read-next u ws i h)
@@ -118,34 +118,34 @@ module _ (u : Unit) (ws : List ℕ) (i : ℕ) (done : List BootArea) (is : read 
   read-all : length ws < i + 3 → done ≡ read u ws
   read-all h = sym (is ∙ ap (λ (x : List BootArea). done ++ x) (read-end u ws i h) ∙ append-nil done)
 
-pub record Collecting (u : Unit) (ws : List ℕ) (i : ℕ) (c : Collected) : Type 0 where
+pub record Collecting (u : AreaUnit) (ws : List ℕ) (i : ℕ) (c : Collected) : Type 0 where
   pub done : List BootArea
   pub is : read u ws ≡ done ++ read u (drop i ws)
   pub collects : Collects done c
 
-pub collecting-start : (u : Unit) (ws : List ℕ) (c : Collected) → Collects [] c → Collecting u ws 0 c
+pub collecting-start : (u : AreaUnit) (ws : List ℕ) (c : Collected) → Collects [] c → Collecting u ws 0 c
 collecting-start u ws c h = record { done = []; is = refl; collects = h }
 
-pub collecting-next : (u : Unit) (ws : List ℕ) (i : ℕ) (a : BootArea) (c d : Collected) → i + 3 ≤ length ws → Collecting u ws i c → a ≡ areaAt u ws i → Adds c a d → Collecting u ws (i + 3) d
+pub collecting-next : (u : AreaUnit) (ws : List ℕ) (i : ℕ) (a : BootArea) (c d : Collected) → i + 3 ≤ length ws → Collecting u ws i c → a ≡ areaAt u ws i → Adds c a d → Collecting u ws (i + 3) d
 collecting-next u ws i a c d h k e s = record {
   done = k .done ++ areaAt u ws i ∷ [];
   is = read-on u ws i (k .done) (k .is) h;
   collects = collected (k .done) (areaAt u ws i) c d (k .collects) (subst (λ (x : BootArea). Adds c x d) e s);
 }
 
-pub collecting-end : (u : Unit) (ws : List ℕ) (i : ℕ) (c : Collected) → length ws < i + 3 → Collecting u ws i c → Collects (read u ws) c
+pub collecting-end : (u : AreaUnit) (ws : List ℕ) (i : ℕ) (c : Collected) → length ws < i + 3 → Collecting u ws i c → Collects (read u ws) c
 collecting-end u ws i c h k = subst (λ (xs : List BootArea). Collects xs c) (read-all u ws i (k .done) (k .is) h) (k .collects)
 
-pub record Carving (rs : List FrameRange) (u : Unit) (ws : List ℕ) (i : ℕ) (l : RangeList) : Type 0 where
+pub record Carving (rs : List FrameRange) (u : AreaUnit) (ws : List ℕ) (i : ℕ) (l : RangeList) : Type 0 where
   pub done : List BootArea
   pub is : read u ws ≡ done ++ read u (drop i ws)
   pub carves : l ≡ listed (piecesIn rs done)
 
-pub carving-start : (rs : List FrameRange) (u : Unit) (ws : List ℕ) (l : RangeList) → l ≡ listed [] → Carving rs u ws 0 l
+pub carving-start : (rs : List FrameRange) (u : AreaUnit) (ws : List ℕ) (l : RangeList) → l ≡ listed [] → Carving rs u ws 0 l
 unfolding extents allPieces
 carving-start rs u ws l h = record { done = []; is = refl; carves = h }
 
-pub carving-next : (rs : List FrameRange) (u : Unit) (ws : List ℕ) (i : ℕ) (a : BootArea) (l m : RangeList) → i + 3 ≤ length ws → Carving rs u ws i l → a ≡ areaAt u ws i →
+pub carving-next : (rs : List FrameRange) (u : AreaUnit) (ws : List ℕ) (i : ℕ) (a : BootArea) (l m : RangeList) → i + 3 ≤ length ws → Carving rs u ws i l → a ≡ areaAt u ws i →
     Appended l (piecesIn rs (a ∷ [])) m → Carving rs u ws (i + 3) m
 carving-next rs u ws i a l m h k e s = record {
   done = k .done ++ areaAt u ws i ∷ [];
@@ -153,5 +153,5 @@ carving-next rs u ws i a l m h k e s = record {
   carves = carved rs (k .done) (areaAt u ws i) l m (k .carves) (subst (λ (x : BootArea). Appended l (piecesIn rs (x ∷ [])) m) e s);
 }
 
-pub carving-end : (rs : List FrameRange) (u : Unit) (ws : List ℕ) (i : ℕ) (l : RangeList) → length ws < i + 3 → Carving rs u ws i l → l ≡ listed (piecesIn rs (read u ws))
+pub carving-end : (rs : List FrameRange) (u : AreaUnit) (ws : List ℕ) (i : ℕ) (l : RangeList) → length ws < i + 3 → Carving rs u ws i l → l ≡ listed (piecesIn rs (read u ws))
 carving-end rs u ws i l h k = k .carves ∙ ap (λ (xs : List BootArea). listed (piecesIn rs xs)) (read-all u ws i (k .done) (k .is) h)

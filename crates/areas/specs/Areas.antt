@@ -12,48 +12,46 @@ use Rattle.model.specs.declared.ByteArea.{ByteArea}
 use Rattle.model.specs.declared.Kind.{Kind}
 use Rattle.model.specs.declared.Kind.the-variants.{General, Reserved}
 use Rattle.carving.specs.Ranges.{listed, Appended}
-use Rattle.areas.specs.declared.Unit.{Unit}
-use Rattle.areas.specs.declared.Unit.the-variants.{Frames, Bytes}
+use Rattle.areas.specs.declared.AreaUnit.{AreaUnit}
+use Rattle.areas.specs.declared.AreaUnit.the-variants.{Frames, Bytes}
 use Rattle.areas.specs.declared.BootArea.{BootArea}
 use Rattle.areas.specs.declared.Collected.{Collected}
 
--- "kind (general or reserved)", as a word
-unfoldable pub kindOf : ℕ → Kind
-kindOf zero = General
-kindOf (suc k) = Reserved
+-- "kind (general or reserved)", as a word: 0 is general, any other number reserved
+unfoldable pub kindOfWord : ℕ → Kind
+kindOfWord zero = General
+kindOfWord (suc k) = Reserved
 
--- "Areas come as a lent list of start, end and kind": three words each
-unfoldable pub areasIn : List ℕ → List Area
-areasIn (s ∷ e ∷ k ∷ ws) = record { start = s; end = e; kind = kindOf k } ∷ areasIn ws
-areasIn (s ∷ e ∷ []) = []
-areasIn (s ∷ []) = []
-areasIn [] = []
+-- three words each; one or two words that are left over are nothing
+unfoldable pub triples : {A : Type 0} → (ℕ → ℕ → ℕ → A) → List ℕ → List A
+triples f (x ∷ y ∷ k ∷ ws) = f x y k ∷ triples f ws
+triples f (x ∷ y ∷ []) = []
+triples f (x ∷ []) = []
+triples f [] = []
 
--- "A second entry takes areas as start address, byte size and kind": three words each too
-unfoldable pub byteAreasIn : List ℕ → List ByteArea
-byteAreasIn (a ∷ b ∷ k ∷ ws) = record { address = a; bytes = b; kind = kindOf k } ∷ byteAreasIn ws
-byteAreasIn (a ∷ b ∷ []) = []
-byteAreasIn (a ∷ []) = []
-byteAreasIn [] = []
+-- "Areas come as a lent list of start, end and kind"
+abbrev pub areasIn : List ℕ → List Area
+areasIn ws = triples (λ s e k. record { start = s; end = e; kind = kindOfWord k }) ws
+
+-- "A second entry takes areas as start address, byte size and kind"
+abbrev pub byteAreasIn : List ℕ → List ByteArea
+byteAreasIn ws = triples (λ a b k. record { address = a; bytes = b; kind = kindOfWord k }) ws
 
 -- The same in the shape of the code: an area with its test for 2. `frames-read` and `bytes-read` (proofs/Read) say that these are the
 -- areas above, and that 2 refuses where the model's test does.
 
-unfoldable pub inFrames : ℕ → ℕ → Kind → BootArea
-inFrames s e k = record { start = s; end = e; kind = k; outside = aboveTop (range s e) }
+unfoldable pub frameArea : ℕ → ℕ → Kind → BootArea
+frameArea s e k = record { start = s; end = e; kind = k; outside = aboveTop (range s e) }
 
-unfoldable pub inBytes : ℕ → ℕ → Kind → BootArea
-inBytes a b k = record { start = touched a b .start; end = touched a b .end; kind = k; outside = bytesOutOfBounds a b }
+unfoldable pub byteArea : ℕ → ℕ → Kind → BootArea
+byteArea a b k = record { start = touched a b .start; end = touched a b .end; kind = k; outside = bytesOutOfBounds a b }
 
-unfoldable pub areaOf : Unit → ℕ → ℕ → ℕ → BootArea
-areaOf Frames s e k = inFrames s e (kindOf k)
-areaOf Bytes a b k = inBytes a b (kindOf k)
+unfoldable pub areaOf : AreaUnit → ℕ → ℕ → ℕ → BootArea
+areaOf Frames s e k = frameArea s e (kindOfWord k)
+areaOf Bytes a b k = byteArea a b (kindOfWord k)
 
-unfoldable pub read : Unit → List ℕ → List BootArea
-read u (x ∷ y ∷ k ∷ ws) = areaOf u x y k ∷ read u ws
-read u (x ∷ y ∷ []) = []
-read u (x ∷ []) = []
-read u [] = []
+abbrev pub read : AreaUnit → List ℕ → List BootArea
+read u ws = triples (areaOf u) ws
 
 unfoldable pub extents : List BootArea → List Extent
 extents [] = []

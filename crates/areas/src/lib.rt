@@ -4,7 +4,7 @@ ghost use mathlib.Core.Path.{_≡_};
 ghost use mathlib.Core.List.{[], _∷_};
 ghost use Prim.Native.Nat.{_+_, _≤_};
 ghost use lib.ListN.{length, getD};
-ghost use Rattle.carving.specs.Ranges.{listed, rangesIn, Reserved, Appended};
+ghost use Rattle.carving.specs.Ranges.{listed, rangesIn, Carvable, Appended};
 ghost use Rattle.areas.specs.Areas as spec;
 ghost use Rattle.areas.specs.Areas.{Collects, Adds};
 use carving::RangeList;
@@ -12,7 +12,7 @@ use memory_structs::FrameRange;
 use model::Kind;
 
 // What the first two words of an area are: its first and last frame, or its address and its size in bytes.
-pub enum Unit {
+pub enum AreaUnit {
     Frames,
     Bytes,
 }
@@ -34,7 +34,7 @@ pub struct Collected {
 }
 
 // Reads the whole list once, however long it is and however the kinds are mixed.
-pub fn collect(areas: &[u64], unit: Unit) -> Collected
+pub fn collect(areas: &[u64], unit: AreaUnit) -> Collected
     ensures { λ r. ⌜ Collects (spec.read unit (now (areas .entry))) r ⌝ }
 {
     let mut c = nothing_collected();
@@ -47,8 +47,8 @@ pub fn collect(areas: &[u64], unit: Unit) -> Collected
 }
 
 // The pieces of each general area, in the given order.
-pub fn carve(areas: &[u64], unit: Unit, reserved: RangeList) -> RangeList
-    requires { ⌜ Reserved reserved ⌝ }
+pub fn carve(areas: &[u64], unit: AreaUnit, reserved: RangeList) -> RangeList
+    requires { ⌜ Carvable reserved ⌝ }
     ensures { λ r. ⌜ r ≡ listed (spec.piecesIn (rangesIn reserved) (spec.read unit (now (areas .entry)))) ⌝ }
 {
     let mut pieces = carving::no_ranges();
@@ -98,7 +98,7 @@ pub fn collect_area(c: Collected, area: BootArea) -> Collected
 }
 
 pub fn carve_area(area: BootArea, reserved: RangeList, pieces: RangeList) -> RangeList
-    requires { ⌜ Reserved reserved ⌝ }
+    requires { ⌜ Carvable reserved ⌝ }
     ensures { λ r. ⌜ Appended pieces (spec.piecesIn (rangesIn reserved) (area ∷ [])) r ⌝ }
 {
     let kind = area.kind;
@@ -109,7 +109,7 @@ pub fn carve_area(area: BootArea, reserved: RangeList, pieces: RangeList) -> Ran
 }
 
 // The area of the three words from i on.
-fn area_at(areas: &[u64], i: usize, unit: Unit) -> BootArea
+fn area_at(areas: &[u64], i: usize, unit: AreaUnit) -> BootArea
     requires { ⌜ i + 3 ≤ length (now areas) ⌝ }
     ensures { λ r. ⌜ r ≡ spec.areaOf unit (getD (now (areas .entry)) i 0) (getD (now (areas .entry)) (i + 1) 0) (getD (now (areas .entry)) (i + 2) 0) ⌝ }
 {
@@ -117,13 +117,13 @@ fn area_at(areas: &[u64], i: usize, unit: Unit) -> BootArea
     let second = areas[i + 1];
     let kind = kind_of(areas[i + 2]);
     match unit {
-        Unit::Frames => area_in_frames(first, second, kind),
-        Unit::Bytes => area_in_bytes(first, second, kind),
+        AreaUnit::Frames => area_in_frames(first, second, kind),
+        AreaUnit::Bytes => area_in_bytes(first, second, kind),
     }
 }
 
 fn kind_of(word: u64) -> Kind
-    ensures { λ r. ⌜ r ≡ spec.kindOf word ⌝ }
+    ensures { λ r. ⌜ r ≡ spec.kindOfWord word ⌝ }
 {
     if word == 0 {
         return Kind::General;
@@ -132,7 +132,7 @@ fn kind_of(word: u64) -> Kind
 }
 
 pub fn area_in_frames(start: u64, end: u64, kind: Kind) -> BootArea
-    ensures { λ r. ⌜ r ≡ spec.inFrames start end kind ⌝ }
+    ensures { λ r. ⌜ r ≡ spec.frameArea start end kind ⌝ }
 {
     let outside = FrameRange::new(start, end).is_above_top();
     BootArea {
@@ -144,7 +144,7 @@ pub fn area_in_frames(start: u64, end: u64, kind: Kind) -> BootArea
 }
 
 pub fn area_in_bytes(address: u64, bytes: u64, kind: Kind) -> BootArea
-    ensures { λ r. ⌜ r ≡ spec.inBytes address bytes kind ⌝ }
+    ensures { λ r. ⌜ r ≡ spec.byteArea address bytes kind ⌝ }
 {
     let frames = FrameRange::touched(address, bytes);
     let outside = FrameRange::bytes_out_of_bounds(address, bytes);

@@ -27,8 +27,8 @@ use Rattle.lists.specs.Record.{listOf, partOf, slotsAt}
 use Rattle.lists.proofs.Whole.{loaded, is-list}
 use Rattle.rules.specs.Check.{checked, refusedWith, acceptedWith}
 use Rattle.rules.proofs.Numbers.{gives-refused, gives-stored, gives-unchanged}
-use Rattle.areas.specs.declared.Unit.{Unit}
-use Rattle.areas.specs.declared.Unit.the-variants.{Frames, Bytes}
+use Rattle.areas.specs.declared.AreaUnit.{AreaUnit}
+use Rattle.areas.specs.declared.AreaUnit.the-variants.{Frames, Bytes}
 use Rattle.areas.specs.declared.BootArea.{BootArea}
 use Rattle.areas.specs.Areas.{read, extents, anyOutside}
 use Rattle.areas.proofs.Read.{frames-read, bytes-read}
@@ -94,17 +94,17 @@ module _ (a : FrameAllocator) (ws : List ℕ) where
 abbrev numberOf : List BootArea → ℕ
 numberOf xs = model.refusal (anyOutside xs) (extents xs)
 
-answer-read : (u : Unit) (ws : List ℕ) (l : Lists) → answer (callOf u ws) l ≡ boot (numberOf (read u ws)) (extents (read u ws)) l
+answer-read : (u : AreaUnit) (ws : List ℕ) (l : Lists) → answer (callOf u ws) l ≡ boot (numberOf (read u ws)) (extents (read u ws)) l
 unfolding answer callOf model.bootRefusal model.byteRefusal
 answer-read Frames ws l = sym (λ i. boot (model.refusal (frames-read ws .outside-is i) (frames-read ws .extents-are i)) (frames-read ws .extents-are i) l)
 answer-read Bytes ws l = sym (λ i. boot (model.refusal (bytes-read ws .outside-is i) (bytes-read ws .extents-are i)) (bytes-read ws .extents-are i) l)
 
-no-buffer : (u : Unit) (ws : List ℕ) → shortBuffer (callOf u ws) ≡ false
+no-buffer : (u : AreaUnit) (ws : List ℕ) → shortBuffer (callOf u ws) ≡ false
 unfolding shortBuffer callOf
 no-buffer Frames ws = refl
 no-buffer Bytes ws = refl
 
-module _ (u : Unit) (areas : List ℕ) (a : FrameAllocator) (ws : List ℕ) where
+module _ (u : AreaUnit) (areas : List ℕ) (a : FrameAllocator) (ws : List ℕ) where
   abbrev c : Call
   c = callOf u areas
 

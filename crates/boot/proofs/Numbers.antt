@@ -20,10 +20,10 @@ use Rattle.model.proofs.Boots.{bytes-below, join-length}
 use Rattle.model.proofs.Joined.{join-apart}
 use Rattle.rules.specs.Check.{refusedWith, acceptedWith}
 use Rattle.carving.specs.declared.RangeList.{RangeList}
-use Rattle.carving.specs.Ranges.{listed, rangesIn, Whole, Reserved}
+use Rattle.carving.specs.Ranges.{listed, rangesIn, Whole, Carvable}
 use Rattle.carving.proofs.Listed.{count, listed-whole, listed-ranges, whole-length}
-use Rattle.areas.specs.declared.Unit.{Unit}
-use Rattle.areas.specs.declared.Unit.the-variants.{Frames, Bytes}
+use Rattle.areas.specs.declared.AreaUnit.{AreaUnit}
+use Rattle.areas.specs.declared.AreaUnit.the-variants.{Frames, Bytes}
 use Rattle.areas.specs.declared.BootArea.{BootArea}
 use Rattle.areas.specs.declared.Collected.{Collected}
 use Rattle.areas.specs.Areas.{byteAreasIn, read, extents, anyOutside, reservedIn, piecesIn, Collects}
@@ -40,7 +40,7 @@ reserved-low (reserved r ∷ xs) e =
     let low : r .end ≤ top = omega (arith, ltb-false top (max (r .start) (r .end)) (neither-first (aboveTop r) (anyOf aboveTop (ranges xs)) e)) in
     rw (le-leb (r .end) top low) (reserved-low xs (neither-second (aboveTop r) (anyOf aboveTop (ranges xs)) e))
 
-read-low : (u : Unit) (ws : List ℕ) → anyOutside (read u ws) ≡ false → anyOf aboveTop (ranges (extents (read u ws))) ≡ false
+read-low : (u : AreaUnit) (ws : List ℕ) → anyOutside (read u ws) ≡ false → anyOf aboveTop (ranges (extents (read u ws))) ≡ false
 read-low Frames ws e = ap (λ (xs : List Extent). anyOf aboveTop (ranges xs)) (frames-read ws .extents-are) ∙ sym (frames-read ws .outside-is) ∙ e
 read-low Bytes ws e = ap (λ (xs : List Extent). anyOf aboveTop (ranges xs)) (bytes-read ws .extents-are) ∙ bytes-below (byteAreasIn ws) (sym (bytes-read ws .outside-is) ∙ e)
 
@@ -80,11 +80,11 @@ passed c z = go (ltb 32 (c .reserved .len)) (c .«any_empty») (c .«any_outside
     go false false false p q r e = record { few = ltb-false 32 (c .reserved .len) p; filled = q; inside = r }
 
 -- the reserved areas that are collected may be carved out
-module _ (u : Unit) (ws : List ℕ) (c : Collected) (h : Collects (read u ws) c) (z : refusalOf c ≡ 0) where
+module _ (u : AreaUnit) (ws : List ℕ) (c : Collected) (h : Collects (read u ws) c) (z : refusalOf c ≡ 0) where
   pub reserved-are : rangesIn (c .reserved) ≡ reservedIn (read u ws)
   reserved-are = listed-ranges (c .reserved) (reservedIn (read u ws)) (passed c z .few) (h .reserved-are)
 
-  pub may-carve : Reserved (c .reserved)
+  pub may-carve : Carvable (c .reserved)
   may-carve =
       let p = passed c z in
       record {
@@ -152,7 +152,7 @@ module _ (xs : List BootArea) (c : Collected) (h : Collects xs c) (a : FrameAllo
       go false false false r p = refl
 
   pub last-refusals : refusalOf c ≡ 0 → (pieces : RangeList) → pieces ≡ listed ps → finished pieces rs a ≡ bootedFrom xs a
-  unfolding finished filled booted
+  unfolding finished booted
   last-refusals z pieces e = go (ltb 32 (length ps)) (disjoint (ps ++ join rs)) refl refl (above-32 (pieces .len) (length ps) (count pieces ps e))
     where
       go : (x d : Bool) → ltb 32 (length ps) ≡ x → disjoint (ps ++ join rs) ≡ d → ltb 32 (pieces .len) ≡ ltb 32 (length ps) → finished pieces rs a ≡ bootedFrom xs a
@@ -161,7 +161,7 @@ module _ (xs : List BootArea) (c : Collected) (h : Collects xs c) (a : FrameAllo
       go false false p q many = rw (many, p, listed-ranges pieces ps (ltb-false 32 (pieces .len) (many ∙ p)) e, q) (refused-by 6 (to-last z ∙ rw (p, q)) (λ w. omega arith))
 
 -- the pieces as they were carved
-pub carved-then : (u : Unit) (ws : List ℕ) (c : Collected) → Collects (read u ws) c → refusalOf c ≡ 0 → (a : FrameAllocator) (pieces : RangeList) →
+pub carved-then : (u : AreaUnit) (ws : List ℕ) (c : Collected) → Collects (read u ws) c → refusalOf c ≡ 0 → (a : FrameAllocator) (pieces : RangeList) →
     pieces ≡ listed (piecesIn (rangesIn (c .reserved)) (read u ws)) → finished pieces (rangesIn (c .reserved)) a ≡ bootedFrom (read u ws) a
 carved-then u ws c h z a pieces e =
     let same = reserved-are u ws c h z in

@@ -17,15 +17,15 @@ use Rattle.lists.specs.Record.{slotsAt}
 use Rattle.rules.specs.Check.{checked, refusedWith, acceptedWith}
 use Rattle.carving.specs.declared.RangeList.{RangeList}
 use Rattle.carving.specs.Ranges.{rangesIn}
-use Rattle.areas.specs.declared.Unit.{Unit}
-use Rattle.areas.specs.declared.Unit.the-variants.{Frames, Bytes}
+use Rattle.areas.specs.declared.AreaUnit.{AreaUnit}
+use Rattle.areas.specs.declared.AreaUnit.the-variants.{Frames, Bytes}
 use Rattle.areas.specs.declared.BootArea.{BootArea}
 use Rattle.areas.specs.declared.Collected.{Collected}
 use Rattle.areas.specs.Areas.{areasIn, byteAreasIn, extents, anyOutside}
 use Rattle.filling.specs.Filled.{filled}
 
 -- the call that the words of a list of areas make
-unfoldable pub callOf : Unit → List ℕ → Call
+unfoldable pub callOf : AreaUnit → List ℕ → Call
 callOf Frames ws = bootCall (areasIn ws)
 callOf Bytes ws = bootBytesCall (byteAreasIn ws)
 

@@ -8,28 +8,28 @@ ghost use Rattle.model.specs.Store.{load};
 ghost use Rattle.carving.specs.Ranges.{rangesIn, Whole, Counted};
 ghost use Rattle.areas.specs.Areas.{read, areasIn, byteAreasIn};
 ghost use Rattle.boot.specs.Boots as spec;
+use areas::AreaUnit;
 use areas::Collected;
-use areas::Unit;
 use carving::RangeList;
 use lists::WhichList;
 use model::Called;
 use model::FrameAllocator;
 
-// Boots from areas given as first frame, last frame and kind. Early form doesn't write the workspace, so it is only read.
+// Boots from areas given as first frame, last frame and kind. The workspace is tested where the record is sorted, and never written.
 pub fn init(a: FrameAllocator, areas: &[u64], words: &[u64]) -> Called
     ensures { λ r. ⌜ Gives (bootCall (areasIn (now (areas .entry)))) a (now (words .entry)) r (now (words .entry)) ⌝ }
 {
-    boot(a, areas, Unit::Frames, words)
+    boot(a, areas, AreaUnit::Frames, words)
 }
 
 // Boots from areas given as address, size in bytes and kind.
 pub fn init_from_bytes(a: FrameAllocator, areas: &[u64], words: &[u64]) -> Called
     ensures { λ r. ⌜ Gives (bootBytesCall (byteAreasIn (now (areas .entry)))) a (now (words .entry)) r (now (words .entry)) ⌝ }
 {
-    boot(a, areas, Unit::Bytes, words)
+    boot(a, areas, AreaUnit::Bytes, words)
 }
 
-fn boot(a: FrameAllocator, areas: &[u64], unit: Unit, words: &[u64]) -> Called
+fn boot(a: FrameAllocator, areas: &[u64], unit: AreaUnit, words: &[u64]) -> Called
     ensures { λ r. ⌜ Gives (spec.callOf unit (now (areas .entry))) a (now (words .entry)) r (now (words .entry)) ⌝ }
 {
     let number = may_boot(a, words);
@@ -77,7 +77,7 @@ fn has_entry(a: FrameAllocator, words: &[u64], which: WhichList) -> bool
 }
 
 // Boots a record whose lists are empty.
-fn boot_areas(a: FrameAllocator, areas: &[u64], unit: Unit) -> Called
+fn boot_areas(a: FrameAllocator, areas: &[u64], unit: AreaUnit) -> Called
     ensures { λ r. ⌜ r ≡ spec.bootedFrom (read unit (now (areas .entry))) a ⌝ }
 {
     let collected = areas::collect(areas, unit);

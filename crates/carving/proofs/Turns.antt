@@ -17,7 +17,7 @@ use Rattle.model.specs.Carving.{piece, past, walk, pieces}
 use Rattle.model.proofs.Boots.{past-from}
 use Rattle.model.proofs.Carved.{pieces-walk}
 use Rattle.carving.specs.declared.RangeList.{RangeList}
-use Rattle.carving.specs.Ranges.{listed, pairs, rangesIn, Reserved, Appended}
+use Rattle.carving.specs.Ranges.{listed, pairs, rangesIn, Carvable, Appended}
 use Rattle.carving.proofs.Listed.{pairs-cons}
 
 -- the frame moves past an area that holds it
@@ -80,7 +80,7 @@ pub record Turn (reserved : RangeList) (start end : ℕ) (p₀ p : RangeList) (s
   pub high : e ≤ end
   pub rest : (xs : List FrameRange) → p₀ ≡ listed xs → Rest reserved start end p s e i xs
 
-module _ (reserved : RangeList) (ok : Reserved reserved) (ns : length (reserved .starts) ≡ 32) (ne : length (reserved .ends) ≡ 32) where
+module _ (reserved : RangeList) (ok : Carvable reserved) (ns : length (reserved .starts) ≡ 32) (ne : length (reserved .ends) ≡ 32) where
   abbrev rs : List FrameRange
   rs = rangesIn reserved
 

@@ -40,8 +40,8 @@ pub record Whole (l : RangeList) : Type 0 where
 abbrev pub Counted : RangeList → Type 0
 Counted l = l .len ≤ 32 → Whole l
 
--- reserved areas that may be carved out: none is empty (4), and none ends above the top (2)
-pub record Reserved (l : RangeList) : Type 0 where
+-- reserved areas that may be carved out: 32 at most (5), none is empty (4), and none ends above the top (2)
+pub record Carvable (l : RangeList) : Type 0 where
   pub few : l .len ≤ 32
   pub filled : anyOf isEmpty (rangesIn l) ≡ false
   pub low : allOf (λ r. leb (r .end) top) (rangesIn l) ≡ true

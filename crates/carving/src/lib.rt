@@ -4,7 +4,7 @@ ghost use mathlib.Core.List.{[], _∷_};
 ghost use Prim.Native.Nat.{_≤_};
 ghost use Rattle.memory_structs.specs.Range as range;
 ghost use Rattle.model.specs.Carving as model;
-ghost use Rattle.carving.specs.Ranges.{listed, rangesIn, Reserved, Appended};
+ghost use Rattle.carving.specs.Ranges.{listed, rangesIn, Carvable, Appended};
 
 // Ranges in the order in which they came, the first 32 of them. `len` is 33 where there are more.
 pub struct RangeList {
@@ -67,7 +67,7 @@ pub fn check_and_add_free_region(
     end: u64,
     mut pieces: RangeList,
 ) -> RangeList
-    requires { ⌜ Reserved reserved ⌝ }
+    requires { ⌜ Carvable reserved ⌝ }
     ensures { λ r. ⌜ Appended pieces (model.pieces (rangesIn reserved) (range.range start end)) r ⌝ }
 {
     let mut current_start = start;

@@ -47,7 +47,8 @@ impl FrameRange {
     // The highest frame, 2^28 - 1.
     pub const TOP: u64 = 268435455;
 
-    // Any two numbers make a range. This and the two tests below it are what the calls are made of; each call tests the bound.
+    // Any two numbers make a range. This, the two tests below it, `touched` and `bytes_out_of_bounds` are what the calls are made of; each
+    // call tests the bound.
     pub fn new(start: u64, end: u64) -> FrameRange
         ensures { λ r. ⌜ r ≡ range start end ⌝ }
     {
@@ -128,7 +129,7 @@ impl FrameRange {
         MaybeRange::Range(Self::touched(address, bytes))
     }
 
-    // The frames that `bytes` bytes from `address` on touch, whatever the two numbers are.
+    // The frames that `bytes` bytes from `address` on touch, whatever the two numbers are; `from_phys_addr` is the call.
     pub fn touched(address: u64, bytes: u64) -> FrameRange
         ensures { λ r. ⌜ r ≡ touched address bytes ⌝ }
     {
