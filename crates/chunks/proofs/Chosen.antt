@@ -29,7 +29,6 @@ one-chosen sorted s i start end u a h b = record {
   some = omega arith;
   in-list = omega (arith, used-below s i u);
   one = λ e. refl;
-  in-use = u;
   begins = refl;
   ends = let z : i + (1 - 1) ≡ i = omega arith in ap (λ (j : ℕ). rangeAt s j .end) (sym z);
   from = a;
@@ -44,7 +43,6 @@ two-chosen s i start end u n a h b = record {
   some = omega arith;
   in-list = omega arith;
   one = λ e. absurd (true≢false e);
-  in-use = u;
   begins = refl;
   ends = let z : i + (2 - 1) ≡ suc i = omega arith in ap (λ (j : ℕ). rangeAt s j .end) (sym z);
   from = a;

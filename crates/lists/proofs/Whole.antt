@@ -1,5 +1,5 @@
 -- A record and its workspace are four lists, each with its part of the words: what is said of each list says it of the whole.
-use mathlib.Core.Path.{_≡_, refl, sym, ap, _∙_}
+use mathlib.Core.Path.{_≡_, refl, sym, ap, subst, _∙_}
 use mathlib.Core.Bool.{Bool, true, _&&_}
 use mathlib.Core.List.{List, _++_, append-assoc}
 use Prim.Native.Nat.{ℕ, _+_, _-_, _≤_}
@@ -9,6 +9,7 @@ use lib.Seq.{take-add, drop-drop}
 use borrow.Rule.Slice.PartMut.{putMid}
 use Rattle.memory_structs.proofs.Bools.{both-first, both-second}
 use Rattle.model.specs.Lists.{Lists, Slot}
+use Rattle.model.specs.Rules.{tidy, rules}
 use Rattle.model.specs.Store.{part, load, recordOf, wordsIn, wordsOf, storedIn, storeRules}
 use Rattle.model.specs.declared.FrameAllocator.{FrameAllocator}
 use Rattle.model.proofs.Whole.{length-part, part-then}
@@ -65,6 +66,37 @@ module _ (a : FrameAllocator) (ws : List ℕ) where
 
   pub is-list : 4096 ≤ length ws → storeRules a ws ≡ true → (w : WhichList) → IsList (listOf w a) (part (partOf w) ws)
   is-list h e w = record { size = length-part (partOf w) ws (omega (arith, part-fits w)); stored = all-kept e w }
+
+-- each list that keeps the rules is tidy
+pub tidy-list : (l : Lists) → rules l ≡ true → (w : WhichList) → tidy (l .sorted) (slotsAt w l) ≡ true
+unfolding rules slotsAt
+tidy-list l e = go
+  where
+    t : WhichList → Bool
+    t w = tidy (l .sorted) (slotsAt w l)
+
+    rest : (t GeneralRegions && t ReservedRegions) ≡ true
+    rest = both-first (t GeneralRegions && t ReservedRegions) _ (both-second (t GeneralFree && t ReservedFree) _ e)
+
+    go : (w : WhichList) → t w ≡ true
+    go GeneralFree = both-first (t GeneralFree) (t ReservedFree) (both-first (t GeneralFree && t ReservedFree) _ e)
+    go ReservedFree = both-second (t GeneralFree) (t ReservedFree) (both-first (t GeneralFree && t ReservedFree) _ e)
+    go GeneralRegions = both-first (t GeneralRegions) (t ReservedRegions) rest
+    go ReservedRegions = both-second (t GeneralRegions) (t ReservedRegions) rest
+
+-- a list taken from the record, beside its part: what goes by its form and its slots goes by what is loaded
+module _ (w : WhichList) (a : FrameAllocator) (ws : List ℕ) {l : OneList} {t : List ℕ} (p : l ≡ listOf w a) (q : t ≡ part (partOf w) ws) where
+  pub taken-is : {A : Type 0} (f : Bool → List Slot → A) → f (l .sorted) (slotsIn l t) ≡ f (a .sorted) (slotsAt w (load a ws))
+  taken-is f = (λ i. f (p i .sorted) (slotsIn (p i) (q i))) ∙ (λ i. f (same-form w a i) (loaded w a ws i))
+
+  pub taken-has : (P : Bool → List Slot → Type 0) → P (a .sorted) (slotsAt w (load a ws)) → P (l .sorted) (slotsIn l t)
+  taken-has P h = subst (λ (x : Bool × List Slot). P (x .0) (x .1)) (sym (taken-is (λ b s. (b, s)))) h
+
+  pub taken-had : (P : Bool → List Slot → Type 0) → P (l .sorted) (slotsIn l t) → P (a .sorted) (slotsAt w (load a ws))
+  taken-had P h = subst (λ (x : Bool × List Slot). P (x .0) (x .1)) (taken-is (λ b s. (b, s))) h
+
+  pub taken-list : 4096 ≤ length ws → storeRules a ws ≡ true → IsList l t
+  taken-list h e = subst (λ (x : OneList). IsList x t) (sym p) (subst (λ (x : List ℕ). IsList (listOf w a) x) (sym q) (is-list a ws h e w))
 
 -- lists that are stored each for itself, put together
 module _ (l : Lists) (ws : List ℕ) {gf rf gr rr : OneList} {w₀ w₁ w₂ w₃ : List ℕ}

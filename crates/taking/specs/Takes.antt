@@ -1,0 +1,24 @@
+-- A grant from one of the record's lists. The words in quotes are document 01's.
+use Prim.Native.Nat.{ℕ}
+use lib.Dec.{ltb}
+use Rattle.memory_structs.specs.Choice.{if_then_else_}
+use Rattle.memory_structs.specs.Range.{range}
+use Rattle.model.specs.Lists.{Lists, bound}
+use Rattle.model.specs.Requests.{Result, refused, granted}
+use Rattle.model.specs.declared.Called.{Called}
+use Rattle.model.specs.declared.FrameAllocator.{FrameAllocator}
+use Rattle.lists.specs.declared.record.WhichList.{WhichList}
+use Rattle.lists.specs.Record.{slotsAt, withSlots}
+use Rattle.grants.specs.declared.Chosen.{Chosen}
+use Rattle.grants.specs.Grants.{grantOf, entriesLeft}
+
+-- 18: "after the call a list would hold more than 32 (early) or 512 (sorted) entries"; else the grant.
+-- `general-taken` and `reserved-taken` (proofs/Taken) say that this is the model's `takeGeneral` and `takeReserved`.
+unfoldable pub taken : WhichList → Chosen → ℕ → ℕ → Lists → Result
+taken w c start end l =
+    if ltb (bound (l .sorted)) (entriesLeft (l .sorted) c start end (slotsAt w l)) then refused 18 l else
+    granted (range start end) (withSlots w l (grantOf (l .sorted) c start end (slotsAt w l)))
+
+-- "An accepted call returns number 0, the granted range [..], frame 0", and count 0
+abbrev pub grantedWith : ℕ → ℕ → FrameAllocator → Called
+grantedWith start end a = record { answer = record { number = 0; range = range start end; frame = 0; count = 0 }; allocator = a }

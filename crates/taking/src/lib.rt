@@ -1,0 +1,148 @@
+// One of the lists of a record that keeps the rules: counted, searched, and chunks taken out of it. Document 01, "How a request is met".
+ghost use mathlib.Core.Path.{_≡_};
+ghost use Prim.Native.Nat.{_≤_};
+ghost use lib.ListN.{length};
+ghost use Rattle.memory_structs.specs.Range.{range, meets};
+ghost use Rattle.model.specs.Lists as model;
+ghost use Rattle.model.specs.Requests.{find};
+ghost use Rattle.model.specs.Store.{load};
+ghost use Rattle.lists.specs.Record.{slotsAt, withSlots, AllStored};
+ghost use Rattle.rules.specs.Check.{Ruled, Does};
+ghost use Rattle.grants.specs.Grants.{Chooses, grantOf, entriesLeft};
+ghost use Rattle.chunks.specs.Searches.{foundOf};
+ghost use Rattle.taking.specs.Takes.{taken, grantedWith};
+use chunks::Search;
+use grants::Chosen;
+use lists::WhichList;
+use memory_structs::FrameRange;
+use model::Answer;
+use model::Called;
+use model::FrameAllocator;
+
+// The chunks of the list that hold every frame from start to end, or why there are none.
+pub fn find_specific_chunk(
+    a: FrameAllocator,
+    words: &[u64],
+    which: WhichList,
+    start: u64,
+    end: u64,
+) -> Search
+    requires { ⌜ Ruled a (now words) ⌝ }
+    requires { ⌜ start ≤ end ⌝ }
+    ensures { λ r. ⌜ foundOf r ≡ find (a .sorted) (range start end) (slotsAt which (load a (now (words .entry)))) ⌝ }
+{
+    let from = lists::part_of(which);
+    let list = lists::list_of(a, which);
+    chunks::find_specific_chunk(list, &words[from..from + 1024], start, end)
+}
+
+// How many entries the list has.
+pub fn count(a: FrameAllocator, words: &[u64], which: WhichList) -> usize
+    requires { ⌜ Ruled a (now words) ⌝ }
+    ensures { λ r. ⌜ r ≡ length (model.entries (slotsAt which (load a (now (words .entry))))) ⌝ }
+{
+    let from = lists::part_of(which);
+    lists::count(lists::list_of(a, which), &words[from..from + 1024])
+}
+
+// Whether an entry of the list has a frame of the range.
+pub fn contains_any(
+    a: FrameAllocator,
+    words: &[u64],
+    which: WhichList,
+    start: u64,
+    end: u64,
+) -> bool
+    requires { ⌜ Ruled a (now words) ⌝ }
+    ensures { λ r. ⌜ r ≡ model.anyOf (meets (range start end)) (model.entries (slotsAt which (load a (now (words .entry))))) ⌝ }
+{
+    let from = lists::part_of(which);
+    let list = lists::list_of(a, which);
+    lists::meets(list, &words[from..from + 1024], start, end)
+}
+
+// The frames from start to end are granted from the chunks that hold them; 18 where what is left over has no place.
+pub fn take(
+    a: FrameAllocator,
+    words: &mut [u64],
+    which: WhichList,
+    chosen: Chosen,
+    start: u64,
+    end: u64,
+) -> Called
+    requires { ⌜ Ruled a (now words) ⌝ }
+    requires { ⌜ Chooses (a .sorted) (slotsAt which (load a (now words))) chosen start end ⌝ }
+    ensures { λ r. ⌜ Does (taken which chosen start end (load a (now (words .entry)))) (now (words .entry)) r (now (words .exit)) ⌝ }
+{
+    if bound(a.sorted) < entries_after(a, words, which, chosen, start, end) {
+        return rules::refused(a, 18);
+    }
+    granted(take_out(a, words, which, chosen, start, end), start, end)
+}
+
+// How many entries the list has after the grant.
+fn entries_after(
+    a: FrameAllocator,
+    words: &[u64],
+    which: WhichList,
+    chosen: Chosen,
+    start: u64,
+    end: u64,
+) -> usize
+    requires { ⌜ Ruled a (now words) ⌝ }
+    requires { ⌜ Chooses (a .sorted) (slotsAt which (load a (now words))) chosen start end ⌝ }
+    ensures { λ r. ⌜ r ≡ entriesLeft (a .sorted) chosen start end (slotsAt which (load a (now (words .entry)))) ⌝ }
+{
+    let from = lists::part_of(which);
+    let list = lists::list_of(a, which);
+    grants::entries_after(list, &words[from..from + 1024], chosen, start, end)
+}
+
+// The chunks without the frames from start to end; the other three lists stay as they are.
+pub fn take_out(
+    a: FrameAllocator,
+    words: &mut [u64],
+    which: WhichList,
+    chosen: Chosen,
+    start: u64,
+    end: u64,
+) -> FrameAllocator
+    requires { ⌜ Ruled a (now words) ⌝ }
+    requires { ⌜ Chooses (a .sorted) (slotsAt which (load a (now words))) chosen start end ⌝ }
+    requires { ⌜ entriesLeft (a .sorted) chosen start end (slotsAt which (load a (now words))) ≤ model.bound (a .sorted) ⌝ }
+    ensures { λ r. ⌜ AllStored (withSlots which (load a (now (words .entry))) (grantOf (a .sorted) chosen start end (slotsAt which (load a (now (words .entry)))))) (now (words .entry)) r (now (words .exit)) ⌝ }
+{
+    let from = lists::part_of(which);
+    let list = lists::list_of(a, which);
+    let list = grants::allocate_from_chosen_chunk(
+        list,
+        &mut words[from..from + 1024],
+        chosen,
+        start,
+        end,
+    );
+    lists::with_list(a, which, list)
+}
+
+// "more than 32 (early) or 512 (sorted) entries"
+pub fn bound(sorted: bool) -> usize
+    ensures { λ r. ⌜ r ≡ model.bound sorted ⌝ }
+{
+    if sorted { 512 } else { 32 }
+}
+
+// "An accepted call returns number 0, the granted range [..], frame 0", and count 0.
+pub fn granted(a: FrameAllocator, start: u64, end: u64) -> Called
+    ensures { λ r. ⌜ r ≡ grantedWith start end a ⌝ }
+{
+    let answer = Answer {
+        number: 0,
+        range: FrameRange::new(start, end),
+        frame: 0,
+        count: 0,
+    };
+    Called {
+        answer,
+        allocator: a,
+    }
+}
