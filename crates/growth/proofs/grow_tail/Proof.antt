@@ -1,0 +1,85 @@
+-- `grow_tail`: refused, or the last chunk is cut and the tail is a new region.
+use mathlib.Core.Path.{sym, _∙_}
+use Rattle.memory_structs.specs.Range.{range}
+use Rattle.model.specs.Store.{load}
+use Rattle.lists.specs.Record.{slotsAt}
+use Rattle.taking.proofs.Taken.{does-refuse}
+use Rattle.growth.proofs.Growing.{Open, open-growth, grow-refused}
+use Rattle.growth.proofs.Cut.{in-sorted, has-last, cut-chooses, cut-fits, cut-ruled, cut-room, tail-done}
+use borrow.Author.Needs.{needs}
+use Rattle.growth.proofs.grow_tail.Statement.{statement}
+use Rattle.growth.proofs.grow_tail.Tie as tie
+
+growth-refusal-requires : tie.Need-growth-refusal-requires
+growth-refusal-requires c κs = search needs
+
+refused-requires : tie.Need-refused-requires
+refused-requires c κs = search needs
+
+same-length : tie.Need-same-length
+same-length c = search needs
+
+returns : tie.Need-returns
+returns c =
+    let k = c .before .before in
+    let s = k .before .before .before in
+    let l = load (s .args .a) (s .args .words .now) in
+    does-refuse (s .args .a) (s .args .words .now) (s .pre .0) _ _ (c .refused .ensures) _
+    (grow-refused l (range (s .args .from) (s .args .end)) (range (s .args .start) (s .args .end)) _ (k .growth-refusal .ensures) (c .before .if1 .taken))
+
+-- the number is 0
+may-grow : (c : tie.Else1) → Open (load (c .before .before .before .before .args .a) (c .before .before .before .before .args .words .now)) (range (c .before .before .before .before .args .from) (c .before .before .before .before .args .end))
+may-grow c = open-growth _ _ (sym (c .before .growth-refusal .ensures) ∙ c .if1 .left)
+
+last-chunk-requires : tie.Need-last-chunk-requires
+unfolding load slotsAt
+last-chunk-requires c κs =
+    let s = c .before .before .before .before .before in
+    (s .pre .0, (in-sorted (s .args .a) (s .args .words .now) (s .pre .0) (s .args .from) (s .args .start) (s .args .end) (s .pre .1 .1), has-last (s .args .a) (s .args .words .now) (s .pre .0) (s .args .from) (s .args .start) (s .args .end) (s .pre .1 .1)))
+
+take-out-requires : tie.Need-take-out-requires
+unfolding load slotsAt
+take-out-requires c κs =
+    let k = c .before in
+    let s = k .before .before .before .before .before .before in
+    (s .pre .0, (cut-chooses (s .args .a) (s .args .words .now) (s .pre .0) (s .args .from) (s .args .start) (s .args .end) (s .pre .1 .1) (k .last-chunk .result) (k .last-chunk .ensures), cut-fits (s .args .a) (s .args .words .now) (s .pre .0) (s .args .from) (s .args .start) (s .args .end) (s .pre .1 .1) (k .last-chunk .result) (k .last-chunk .ensures)))
+
+add-reserved-region-to-lists-requires : tie.Need-add-reserved-region-to-lists-requires
+unfolding load slotsAt
+add-reserved-region-to-lists-requires c κs =
+    let t = c .before .before .before in
+    let k = t .before .before in
+    let e = k .before .before in
+    let s = e .before .before .before .before in
+    (cut-ruled (s .args .a) (s .args .words .now) (s .pre .0) (s .args .from) (s .args .start) (s .args .end) (s .pre .1 .1) (k .last-chunk .result) (k .last-chunk .ensures) (t .take-out .ensures), cut-room (s .args .a) (s .args .words .now) (s .pre .0) (s .args .from) (s .args .start) (s .args .end) (s .pre .1 .1) (k .last-chunk .result) (k .last-chunk .ensures) (t .take-out .ensures) (may-grow e))
+
+granted-requires : tie.Need-granted-requires
+granted-requires c κs = search needs
+
+same-length-2 : tie.Need-same-length-2
+same-length-2 c = search needs
+
+returns-2 : tie.Need-returns-2
+unfolding load slotsAt
+returns-2 c =
+    let d = c .before .before .before in
+    let t = d .before .before .before .before in
+    let k = t .before .before in
+    let e = k .before .before in
+    let s = e .before .before .before .before in
+    tail-done (s .args .a) (s .args .words .now) (s .pre .0) (s .args .from) (s .args .start) (s .args .end) (s .pre .1 .1) (k .last-chunk .result) (k .last-chunk .ensures) (t .take-out .ensures) (may-grow e) (d .add-reserved-region-to-lists .ensures) _ (c .granted .ensures)
+
+pub grow-tail-spec : {M : Type 1} → statement M
+grow-tail-spec =
+    tie.close
+    (tie.spec
+    growth-refusal-requires
+    refused-requires
+    same-length
+    returns
+    last-chunk-requires
+    take-out-requires
+    add-reserved-region-to-lists-requires
+    granted-requires
+    same-length-2
+    returns-2)
