@@ -4,10 +4,11 @@ ghost use mathlib.Core.Path.{_≡_};
 ghost use mathlib.Core.List.{[], _∷_};
 ghost use Prim.Native.Nat.{_+_, _≤_};
 ghost use lib.ListN.{length, getD};
-ghost use Rattle.carving.specs.Ranges.{listed, rangesIn, Carvable, Appended};
+ghost use Rattle.carving.specs.Ranges.{listed, listOf, rangesIn, Carvable, Appended};
 ghost use Rattle.areas.specs.Areas as spec;
 ghost use Rattle.areas.specs.Areas.{Collects, Adds};
 use carving::RangeList;
+use carving::check_and_add_free_region;
 use memory_structs::FrameRange;
 use model::Kind;
 
@@ -54,7 +55,8 @@ pub fn carve(areas: &[u64], unit: AreaUnit, reserved: RangeList) -> RangeList
     let mut pieces = carving::no_ranges();
     let mut i = 0;
     while 3 <= areas.len() - i {
-        pieces = carve_area(area_at(areas, i, unit), reserved, pieces);
+        let area = area_at(areas, i, unit);
+        pieces = carve_area(area, &reserved.starts, &reserved.ends, reserved.len, pieces);
         i += 3;
     }
     pieces
@@ -97,13 +99,20 @@ pub fn collect_area(c: Collected, area: BootArea) -> Collected
     }
 }
 
-pub fn carve_area(area: BootArea, reserved: RangeList, pieces: RangeList) -> RangeList
-    requires { ⌜ Carvable reserved ⌝ }
-    ensures { λ r. ⌜ Appended pieces (spec.piecesIn (rangesIn reserved) (area ∷ [])) r ⌝ }
+pub fn carve_area<'a>(
+    area: BootArea,
+    starts: &'a [u64; 32],
+    ends: &'a [u64; 32],
+    len: usize,
+    pieces: RangeList,
+) -> RangeList
+    requires { ⌜ (length (now starts) ≡ 32) × (length (now ends) ≡ 32) ⌝ }
+    requires { ⌜ Carvable (listOf (now starts) (now ends) len) ⌝ }
+    ensures { λ r. ⌜ Appended pieces (spec.piecesIn (rangesIn (listOf (now (starts .entry)) (now (ends .entry)) len)) (area ∷ [])) r ⌝ }
 {
     let kind = area.kind;
     match kind {
-        Kind::General => carving::check_and_add_free_region(reserved, area.start, area.end, pieces),
+        Kind::General => check_and_add_free_region(starts, ends, len, area.start, area.end, pieces),
         Kind::Reserved => pieces,
     }
 }

@@ -80,7 +80,7 @@ pub record Turn (reserved : RangeList) (start end : ℕ) (p₀ p : RangeList) (s
   pub high : e ≤ end
   pub rest : (xs : List FrameRange) → p₀ ≡ listed xs → Rest reserved start end p s e i xs
 
-module _ (reserved : RangeList) (ok : Carvable reserved) (ns : length (reserved .starts) ≡ 32) (ne : length (reserved .ends) ≡ 32) where
+module _ (reserved : RangeList) (full : (length (reserved .starts) ≡ 32) × (length (reserved .ends) ≡ 32)) (ok : Carvable reserved) where
   abbrev rs : List FrameRange
   rs = rangesIn reserved
 
@@ -92,7 +92,7 @@ module _ (reserved : RangeList) (ok : Carvable reserved) (ns : length (reserved 
 
   area-at : (i : ℕ) → i < reserved .len → drop i rs ≡ area i ∷ drop (i + 1) rs
   unfolding rangesIn
-  area-at i h = pairs-cons (reserved .len) i (reserved .starts) (reserved .ends) h (omega (arith, ok .few)) (omega (arith, ok .few)) ∙ rw (add-one i)
+  area-at i h = pairs-cons (reserved .len) i (reserved .starts) (reserved .ends) h (omega (arith, ok .few, full)) (omega (arith, ok .few, full)) ∙ rw (add-one i)
 
   pub area-filled : (i : ℕ) → i < reserved .len → area i .start ≤ area i .end
   area-filled i h = ltb-false _ _ (any-at isEmpty i rs (drop (i + 1) rs) (area i) (ok .filled) (area-at i h))

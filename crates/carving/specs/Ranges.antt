@@ -31,6 +31,10 @@ pairs (suc n) [] es = []
 unfoldable pub rangesIn : RangeList → List FrameRange
 rangesIn l = pairs (l .len) (l .starts) (l .ends)
 
+-- the list with these arrays, where they are lent
+abbrev pub listOf : List ℕ → List ℕ → ℕ → RangeList
+listOf ss es n = record { starts = ss; ends = es; len = n }
+
 -- a list that has stored all of its ranges
 pub record Whole (l : RangeList) : Type 0 where
   pub few : l .len ≤ 32

@@ -2,9 +2,10 @@
 ghost use mathlib.Core.Path.{_≡_};
 ghost use mathlib.Core.List.{[], _∷_};
 ghost use Prim.Native.Nat.{_≤_};
+ghost use lib.ListN.{length};
 ghost use Rattle.memory_structs.specs.Range as range;
 ghost use Rattle.model.specs.Carving as model;
-ghost use Rattle.carving.specs.Ranges.{listed, rangesIn, Carvable, Appended};
+ghost use Rattle.carving.specs.Ranges.{listed, listOf, rangesIn, Carvable, Appended};
 
 // Ranges in the order in which they came, the first 32 of them. `len` is 33 where there are more.
 pub struct RangeList {
@@ -60,22 +61,26 @@ fn past(reserved_start: u64, reserved_end: u64, frame: u64) -> u64
     frame
 }
 
-// The pieces of the area from start to end that are not reserved: those above before those below.
-pub fn check_and_add_free_region(
-    reserved: RangeList,
+// The pieces of the area from start to end that are not reserved: those above before those below. The reserved areas are lent, since
+// there may be 33 calls at a time, one in another.
+pub fn check_and_add_free_region<'a>(
+    starts: &'a [u64; 32],
+    ends: &'a [u64; 32],
+    len: usize,
     start: u64,
     end: u64,
     mut pieces: RangeList,
 ) -> RangeList
-    requires { ⌜ Carvable reserved ⌝ }
-    ensures { λ r. ⌜ Appended pieces (model.pieces (rangesIn reserved) (range.range start end)) r ⌝ }
+    requires { ⌜ (length (now starts) ≡ 32) × (length (now ends) ≡ 32) ⌝ }
+    requires { ⌜ Carvable (listOf (now starts) (now ends) len) ⌝ }
+    ensures { λ r. ⌜ Appended pieces (model.pieces (rangesIn (listOf (now (starts .entry)) (now (ends .entry)) len)) (range.range start end)) r ⌝ }
 {
     let mut current_start = start;
     let mut current_end = end;
     let mut i = 0;
-    while i < reserved.len {
-        let first = reserved.starts[i];
-        let last = reserved.ends[i];
+    while i < len {
+        let first = starts[i];
+        let last = ends[i];
         current_start = past(first, last, current_start);
         i += 1;
         if current_start <= first {
@@ -84,7 +89,14 @@ pub fn check_and_add_free_region(
                     // The rest of the area is reserved.
                     return push_piece(pieces, current_start, first - 1);
                 }
-                pieces = check_and_add_free_region(reserved, last + 1, current_end, pieces);
+                pieces = check_and_add_free_region(
+                    starts,
+                    ends,
+                    len,
+                    last + 1,
+                    current_end,
+                    pieces,
+                );
                 current_end = first - 1;
             }
         }

@@ -14,6 +14,7 @@ ghost use Rattle.early.specs.Slots.{IsEarly, listOf, firstUnused, frames
 use memory_structs::FrameRange;
 use memory_structs::highest;
 use memory_structs::lowest;
+use memory_structs::meet;
 use model::EarlyList;
 use tables::Found;
 
@@ -196,14 +197,6 @@ pub fn sum(l: EarlyList) -> u64
     ensures { λ r. ⌜ r ≡ model.sum (entries (slotsOf l)) ⌝ }
 {
     frames_in(&l.starts, &l.ends, &l.used, 0, FrameRange::TOP)
-}
-
-// Whether two ranges have a frame in common.
-fn meet(a_start: u64, a_end: u64, b_start: u64, b_end: u64) -> bool
-    ensures { λ r. ⌜ r ≡ meets (range «a_start» «a_end») (range «b_start» «b_end») ⌝ }
-{
-    let both = common(a_start, a_end, b_start, b_end);
-    both.start <= both.end
 }
 
 // How many frames two ranges have in common.

@@ -1,12 +1,11 @@
 -- The turns of the test that nothing meets: of a search over the ranges, and over the pieces.
-use Prim.Native.Nat.{ℕ, _+_, _≤_, _<_, min, max}
+use Prim.Native.Nat.{ℕ, _+_, _≤_, _<_}
 use native.Mathlib.Omega.{arith}
 use native.Mathlib.Numerals.{add-one}
 use mathlib.Core.Path.{_≡_, refl, sym, ap, _∙_}
 use mathlib.Core.Bool.{Bool, true, false, not, _&&_, _||_}
 use mathlib.Core.List.{List, [], _∷_, _++_}
 use lib.ListN.{length, drop, getD, drop-of-length-le}
-use borrow.Author.Tests.{le-leb, lt-leb}
 use Rattle.memory_structs.specs.Range.{range, meets}
 use Rattle.memory_structs.specs.declared.range.FrameRange.{FrameRange}
 use Rattle.model.specs.Lists.{anyOf, disjoint}
@@ -31,11 +30,11 @@ module _ (s e n i : ℕ) (ss es : List ℕ) where
     unfolding anyOf
     either = ap (anyOf (meets (range s e))) (pairs-cons n i ss es h hs he) ∙ rw (add-one i)
 
-    pub meets-here : max s (getD ss i 0) ≤ min e (getD es i 0) → meetsFrom s e n ss es i ≡ true
-    meets-here m = either ∙ rw (le-leb (max s (getD ss i 0)) (min e (getD es i 0)) m)
+    pub meets-here : meets (range s e) (range (getD ss i 0) (getD es i 0)) ≡ true → meetsFrom s e n ss es i ≡ true
+    meets-here m = either ∙ rw m
 
-    pub meets-later : min e (getD es i 0) < max s (getD ss i 0) → meetsFrom s e n ss es i ≡ meetsFrom s e n ss es (i + 1)
-    meets-later m = either ∙ rw (lt-leb (max s (getD ss i 0)) (min e (getD es i 0)) m)
+    pub meets-later : meets (range s e) (range (getD ss i 0) (getD es i 0)) ≡ false → meetsFrom s e n ss es i ≡ meetsFrom s e n ss es (i + 1)
+    meets-later m = either ∙ rw m
 
 -- a range of one list or of the other
 any-joined : (p : FrameRange → Bool) (xs ys : List FrameRange) → anyOf p (xs ++ ys) ≡ (anyOf p xs || anyOf p ys)

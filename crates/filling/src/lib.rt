@@ -11,8 +11,7 @@ ghost use Rattle.model.specs.Store.{earlyOf};
 ghost use Rattle.carving.specs.Ranges.{pairs, rangesIn, Whole};
 ghost use Rattle.filling.specs.Filled.{filled};
 use carving::RangeList;
-use memory_structs::highest;
-use memory_structs::lowest;
+use memory_structs::meet;
 use model::EarlyList;
 use model::FrameAllocator;
 
@@ -60,7 +59,7 @@ fn meets_from<'a>(
 {
     let mut i = from;
     while i < len {
-        if highest(start, starts[i]) <= lowest(end, ends[i]) {
+        if meet(start, end, starts[i], ends[i]) {
             return true;
         }
         i += 1;

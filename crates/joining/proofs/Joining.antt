@@ -2,10 +2,11 @@
 use Prim.Native.Nat.{ℕ, _+_, _≤_, _<_, min, max}
 use native.Mathlib.Omega.{arith}
 use mathlib.Core.Path.{_≡_, refl, sym, ap, _∙_}
+use mathlib.Core.Bool.{true, false}
 use mathlib.Core.List.{List, [], _∷_, _++_, append-assoc, append-nil}
 use lib.ListN.{length, drop, getD, drop-of-length-le}
-use borrow.Author.Tests.{le-leb, lt-leb, eq-eqb, ne-eqb}
-use Rattle.memory_structs.specs.Range.{range}
+use borrow.Author.Tests.{eq-eqb, ne-eqb}
+use Rattle.memory_structs.specs.Range.{range, meets}
 use Rattle.memory_structs.specs.declared.range.FrameRange.{FrameRange}
 use Rattle.model.specs.Boot.{grown, left, pass, join}
 use Rattle.model.proofs.Boots.{left-length, pass-length}
@@ -43,22 +44,22 @@ module _ (l : RangeList) (w : Whole l) where
         (sym (a .grows ∙ ap (grown (range s e)) d), a .is ∙ ap listed (sym (a .leaves ∙ ap (λ (x : List FrameRange). a .ys ++ left (range s e) x) d ∙ append-nil (a .ys))))
 
     module _ (h : k < l .len) where
-      pub absorb-met : max s (area k .start) ≤ min e (area k .end) → Absorbing rs (min s (area k .start)) (max e (area k .end)) rest (k + 1)
+      pub absorb-met : meets (range s e) (area k) ≡ true → Absorbing rs (min s (area k .start)) (max e (area k .end)) rest (k + 1)
       unfolding grown left
       absorb-met m = record {
         ys = a .ys;
         is = a .is;
-        grows = a .grows ∙ ap (grown (range s e)) (range-at l w k h) ∙ rw (grown, le-leb (max s (area k .start)) (min e (area k .end)) m);
-        leaves = a .leaves ∙ ap (λ (x : List FrameRange). a .ys ++ left (range s e) x) (range-at l w k h) ∙ rw (le-leb (max s (area k .start)) (min e (area k .end)) m);
+        grows = a .grows ∙ ap (grown (range s e)) (range-at l w k h) ∙ rw (grown, m);
+        leaves = a .leaves ∙ ap (λ (x : List FrameRange). a .ys ++ left (range s e) x) (range-at l w k h) ∙ rw m;
       }
 
-      pub absorb-not : min e (area k .end) < max s (area k .start) → (next : RangeList) → Appended rest (area k ∷ []) next → Absorbing rs s e next (k + 1)
+      pub absorb-not : meets (range s e) (area k) ≡ false → (next : RangeList) → Appended rest (area k ∷ []) next → Absorbing rs s e next (k + 1)
       unfolding grown left
       absorb-not m next p = record {
         ys = a .ys ++ area k ∷ [];
         is = p (a .ys) (a .is);
-        grows = a .grows ∙ ap (grown (range s e)) (range-at l w k h) ∙ rw (grown, lt-leb (max s (area k .start)) (min e (area k .end)) m);
-        leaves = a .leaves ∙ ap (λ (x : List FrameRange). a .ys ++ left (range s e) x) (range-at l w k h) ∙ rw (lt-leb (max s (area k .start)) (min e (area k .end)) m)
+        grows = a .grows ∙ ap (grown (range s e)) (range-at l w k h) ∙ rw (grown, m);
+        leaves = a .leaves ∙ ap (λ (x : List FrameRange). a .ys ++ left (range s e) x) (range-at l w k h) ∙ rw m
             (sym (append-assoc (a .ys) (area k ∷ []) (left (range s e) (drop (k + 1) rs))));
       }
 

@@ -9,6 +9,7 @@ ghost use Rattle.joining.specs.Joins.{firstGrown, othersLeft};
 use carving::RangeList;
 use memory_structs::highest;
 use memory_structs::lowest;
+use memory_structs::meet;
 
 // The first area of a list, grown, and those of the others that are left.
 pub struct Absorbed {
@@ -60,7 +61,7 @@ fn absorb(l: RangeList) -> Absorbed
         let other_start = l.starts[k];
         let other_end = l.ends[k];
         k += 1;
-        if highest(start, other_start) <= lowest(end, other_end) {
+        if meet(start, end, other_start, other_end) {
             start = lowest(start, other_start);
             end = highest(end, other_end);
         } else {

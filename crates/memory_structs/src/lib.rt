@@ -13,3 +13,4 @@ pub use range::MaybeRange;
 pub use range::YesNo;
 pub use range::highest;
 pub use range::lowest;
+pub use range::meet;

@@ -2,7 +2,7 @@
 ghost use mathlib.Core.Path.{_≡_};
 ghost use mathlib.Core.Bool.{false, _||_};
 ghost use Prim.Native.Nat.{min, max};
-ghost use Rattle.memory_structs.specs.Range.{range, isEmpty, size, aboveTop, contains, touched, bytesOutOfBounds, framesBelow, framesAbove};
+ghost use Rattle.memory_structs.specs.Range.{range, isEmpty, size, aboveTop, meets, contains, touched, bytesOutOfBounds, framesBelow, framesAbove};
 ghost use Rattle.memory_structs.specs.Answers.{shownTest, shownNumber, shownRange};
 ghost use Rattle.memory_structs.specs.RangeCalls.{sizeInFrames, containsRange, overlap, toExtended, fromPhysAddr, offsetOfAddress, addressAtOffset};
 
@@ -233,6 +233,13 @@ pub(crate) fn above(r: FrameRange, frame: u64) -> FrameRange
         return FrameRange::new(frame + 1, r.end);
     }
     FrameRange::EMPTY
+}
+
+// Whether some frame is in both ranges.
+pub fn meet(start: u64, end: u64, other_start: u64, other_end: u64) -> bool
+    ensures { λ r. ⌜ r ≡ meets (range start end) (range «other_start» «other_end») ⌝ }
+{
+    highest(start, other_start) <= lowest(end, other_end)
 }
 
 pub fn lowest(a: u64, b: u64) -> u64

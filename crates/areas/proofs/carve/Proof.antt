@@ -1,5 +1,7 @@
 -- `carve`: at each turn the general areas before i are carved.
 use Prim.Native.Nat.{_-_, _≤_}
+use mathlib.Core.Path.{_≡_}
+use borrow.Author.Needs.{needs}
 use lib.ListN.{length}
 use Rattle.carving.specs.Ranges.{rangesIn}
 use Rattle.areas.proofs.Steps.{Carving, carving-start, carving-next, carving-end}
@@ -26,7 +28,11 @@ area-at-requires : tie.Need-area-at-requires Inv-loop μ-loop
 area-at-requires c κs = omega arith
 
 carve-area-requires : tie.Need-carve-area-requires Inv-loop μ-loop
-carve-area-requires c κs = c .before .before .before .before .before .pre
+carve-area-requires c κs =
+    let s = c .before .before .before .before .before .before .before .before in
+    let starts : length (s .args .t3 .starts) ≡ 32 = search needs in
+    let ends : length (s .args .t3 .ends) ≡ 32 = search needs in
+    ((starts, ends), s .pre)
 
 add-i : tie.Need-add-i Inv-loop μ-loop
 add-i c = omega arith
@@ -36,8 +42,8 @@ loop-less c = omega arith
 
 loop-again : tie.Need-loop-again Inv-loop μ-loop
 loop-again c =
-    let k = c .before .before .before in
-    (omega arith, carving-next _ _ _ _ _ _ _ (omega arith) (k .loop .inv .1) (c .before .area-at .ensures) (c .carve-area .ensures))
+    let a = c .before .before .before .before in
+    (omega arith, carving-next _ _ _ _ _ _ _ (omega arith) (a .before .before .loop .inv .1) (a .area-at .ensures) (c .carve-area .ensures))
 
 returns : tie.Need-returns Inv-loop μ-loop
 returns c = carving-end _ _ _ _ _ (omega arith) (c .before .loop .inv .1)

@@ -2,11 +2,10 @@
 -- the piece has fewer frames.
 use Prim.Native.Nat.{ℕ, _+_, _-_, _<_}
 use native.Mathlib.Omega.{arith}
-use borrow.Author.Needs.{needs}
-use mathlib.Core.Path.{_≡_}
-use lib.ListN.{length, getD}
+use lib.ListN.{getD}
 use Rattle.memory_structs.specs.Range.{range}
 use Rattle.model.proofs.Boots.{past-from}
+use Rattle.carving.specs.Ranges.{listOf}
 use Rattle.carving.proofs.Turns.{Turn, turn-start, area-low, area-filled, area-below, area-above, starts-above, part-above, carved-stop, carved-end}
 use borrow.Fn.Kinds.{In}
 use borrow.Fn.PlainCycle.{Measures, is, falls, and}
@@ -18,32 +17,32 @@ use Rattle.carving.proofs.push_piece.Reads as push-piece-reads
 use Rattle.carving.proofs.+check_and_add_free_region.{statement}
 use Rattle.carving.proofs.+check_and_add_free_region.Tie.{close}
 
-abbrev μ : Measures 0 kinds.ps ℕ
-μ κs a = (a .1 .1 .0 + 1) - a .1 .0
+abbrev μ : Measures 1 kinds.ps ℕ
+μ κs a = (a .1 .1 .1 .1 .0 + 1) - a .1 .1 .1 .0
 
-abbrev given : ℕ → In 0 kinds.ps
+abbrev given : ℕ → In 1 kinds.ps
 given t =
     and
-    0
+    1
     kinds.ps
-    (is 0 kinds.ps μ t)
+    (is 1 kinds.ps μ t)
     reads.Pre
 
-abbrev asked : ℕ → In 0 kinds.ps
+abbrev asked : ℕ → In 1 kinds.ps
 asked t =
     and
-    0
+    1
     kinds.ps
-    (falls 0 kinds.ps _<_ μ t)
+    (falls 1 kinds.ps _<_ μ t)
     reads.Pre
 
 abbrev Inv-loop : lts.InvT-loop
-Inv-loop start end pieces₀ reserved current-start₀ current-end₀ i₀ pieces current-start current-end i =
-    Turn reserved start end pieces₀ pieces current-start current-end i
+Inv-loop starts ends len start end pieces₀ current-start₀ current-end₀ i₀ pieces current-start current-end i =
+    Turn (listOf starts ends len) start end pieces₀ pieces current-start current-end i
 
 abbrev μ-loop : lts.MeasureT-loop
-μ-loop start end pieces₀ reserved current-start₀ current-end₀ i₀ pieces current-start current-end i =
-    reserved .len - i
+μ-loop starts ends len start end pieces₀ current-start₀ current-end₀ i₀ pieces current-start current-end i =
+    len - i
 
 loop-holds : (t : ℕ) → lts.Need-loop-holds (
   past-reads.Asked,
@@ -58,9 +57,7 @@ loop-holds : (t : ℕ) → lts.Need-loop-holds (
     Inv-loop
     μ-loop
 loop-holds t c =
-    let ns : length (c .args .t1 .starts) ≡ 32 = search needs in
-    let ne : length (c .args .t1 .ends) ≡ 32 = search needs in
-    turn-start (c .args .t1) (c .pre .1) ns ne (c .args .start) (c .args .end) (c .args .pieces)
+    turn-start _ (c .pre .1 .0) (c .pre .1 .1) (c .args .start) (c .args .end) (c .args .pieces)
 
 mul-first : (t : ℕ) → lts.Need-mul-first (
   past-reads.Asked,
@@ -74,7 +71,7 @@ mul-first : (t : ℕ) → lts.Need-mul-first (
     reads.Post
     Inv-loop
     μ-loop
-mul-first t c = omega (arith, c .before .before .pre .1 .few)
+mul-first t c = omega (arith, c .before .before .pre .1)
 
 element-copy-out-first :
     (t : ℕ) → lts.Need-element-copy-out-first (
@@ -89,7 +86,7 @@ element-copy-out-first :
     reads.Post
     Inv-loop
     μ-loop
-element-copy-out-first t c = omega (arith, c .before .before .pre .1 .few)
+element-copy-out-first t c = omega (arith, c .before .before .pre .1)
 
 mul-last : (t : ℕ) → lts.Need-mul-last (
   past-reads.Asked,
@@ -103,7 +100,7 @@ mul-last : (t : ℕ) → lts.Need-mul-last (
     reads.Post
     Inv-loop
     μ-loop
-mul-last t c = omega (arith, c .before .before .before .pre .1 .few)
+mul-last t c = omega (arith, c .before .before .before .pre .1)
 
 element-copy-out-last :
     (t : ℕ) → lts.Need-element-copy-out-last (
@@ -118,7 +115,7 @@ element-copy-out-last :
     reads.Post
     Inv-loop
     μ-loop
-element-copy-out-last t c = omega (arith, c .before .before .before .pre .1 .few)
+element-copy-out-last t c = omega (arith, c .before .before .before .pre .1)
 
 past-requires :
     (t : ℕ) → lts.Need-past-requires (
@@ -136,9 +133,7 @@ past-requires :
 past-requires t c κs =
     let k = c .before .before .before in
     let s = k .before in
-    let ns : length (s .args .t1 .starts) ≡ 32 = search needs in
-    let ne : length (s .args .t1 .ends) ≡ 32 = search needs in
-    area-low (s .args .t1) (s .pre .1) ns ne (k .loop .i) (omega arith)
+    area-low _ (s .pre .1 .0) (s .pre .1 .1) (k .loop .i) (omega arith)
 
 add-i : (t : ℕ) → lts.Need-add-i (
   past-reads.Asked,
@@ -152,7 +147,7 @@ add-i : (t : ℕ) → lts.Need-add-i (
     reads.Post
     Inv-loop
     μ-loop
-add-i t c = omega (arith, c .before .before .before .before .before .pre .1 .few)
+add-i t c = omega (arith, c .before .before .before .before .before .pre .1)
 
 sub-push-piece :
     (t : ℕ) → lts.Need-sub-push-piece (
@@ -170,9 +165,7 @@ sub-push-piece :
 sub-push-piece t c =
     let k = c .before .before .before .before .before .before .before in
     let s = k .before in
-    let ns : length (s .args .t1 .starts) ≡ 32 = search needs in
-    let ne : length (s .args .t1 .ends) ≡ 32 = search needs in
-    omega (arith, c .before .before .before .past .ensures, starts-above (s .args .t1) (s .pre .1) ns ne (s .args .start) (s .args .end) (s .args .pieces) (k .loop .pieces) (k .loop .current-start) (k .loop .current-end) (k .loop .i) (k .loop .inv) (omega arith) (omega (arith, c .before .before .before .past .ensures)) (omega arith))
+    omega (arith, c .before .before .before .past .ensures, starts-above _ (s .pre .1 .0) (s .pre .1 .1) _ _ _ _ _ _ _ (k .loop .inv) (omega arith) (omega (arith, c .before .before .before .past .ensures)) (omega arith))
 
 push-piece-requires :
     (t : ℕ) → lts.Need-push-piece-requires (
@@ -204,9 +197,7 @@ returns : (t : ℕ) → lts.Need-returns (
 returns t c =
     let k = c .before .before .before .before .before .before .before .before in
     let s = k .before in
-    let ns : length (s .args .t1 .starts) ≡ 32 = search needs in
-    let ne : length (s .args .t1 .ends) ≡ 32 = search needs in
-    carved-stop (s .args .t1) (s .pre .1) ns ne (s .args .start) (s .args .end) (s .args .pieces) (k .loop .pieces) (k .loop .current-start) (k .loop .current-end) (k .loop .i) (k .loop .inv) (omega arith) (omega (arith, c .before .before .before .before .past .ensures)) (omega arith) (omega arith) _ (rw (← c .before .before .before .before .past .ensures) (c .push-piece .ensures))
+    carved-stop _ (s .pre .1 .0) (s .pre .1 .1) _ _ _ _ _ _ _ (k .loop .inv) (omega arith) (omega (arith, c .before .before .before .before .past .ensures)) (omega arith) (omega arith) _ (rw (← c .before .before .before .before .past .ensures) (c .push-piece .ensures))
 
 add-above :
     (t : ℕ) → lts.Need-add-check-and-add-free-region (
@@ -224,9 +215,7 @@ add-above :
 add-above t c =
     let k = c .before .before .before .before .before .before .before in
     let s = k .before in
-    let ns : length (s .args .t1 .starts) ≡ 32 = search needs in
-    let ne : length (s .args .t1 .ends) ≡ 32 = search needs in
-    omega (arith, area-low (s .args .t1) (s .pre .1) ns ne (k .loop .i) (omega arith))
+    omega (arith, area-low _ (s .pre .1 .0) (s .pre .1 .1) (k .loop .i) (omega arith))
 
 again-requires :
     (t : ℕ) → lts.Need-check-and-add-free-region-requires (
@@ -244,9 +233,7 @@ again-requires :
 again-requires t c κs =
     let k = c .before .before .before .before .before .before .before in
     let s = k .before in
-    let ns : length (s .args .t1 .starts) ≡ 32 = search needs in
-    let ne : length (s .args .t1 .ends) ≡ 32 = search needs in
-    (omega (arith, s .pre .0, k .loop .inv .low, k .loop .inv .high, c .before .before .before .past .ensures, past-from (range (getD (s .args .t1 .starts) (k .loop .i) 0) (getD (s .args .t1 .ends) (k .loop .i) 0)) (k .loop .current-start), area-filled (s .args .t1) (s .pre .1) ns ne (k .loop .i) (omega arith)), s .pre .1)
+    (omega (arith, s .pre .0, k .loop .inv .low, k .loop .inv .high, c .before .before .before .past .ensures, past-from (range (getD (s .args .starts .now) (k .loop .i) 0) (getD (s .args .ends .now) (k .loop .i) 0)) (k .loop .current-start), area-filled _ (s .pre .1 .0) (s .pre .1 .1) (k .loop .i) (omega arith)), s .pre .1)
 
 sub-current-end :
     (t : ℕ) → lts.Need-sub-current-end (
@@ -264,9 +251,7 @@ sub-current-end :
 sub-current-end t c =
     let k = c .before .before .before .before .before .before .before .before in
     let s = k .before in
-    let ns : length (s .args .t1 .starts) ≡ 32 = search needs in
-    let ne : length (s .args .t1 .ends) ≡ 32 = search needs in
-    omega (arith, c .before .before .before .before .past .ensures, starts-above (s .args .t1) (s .pre .1) ns ne (s .args .start) (s .args .end) (s .args .pieces) (k .loop .pieces) (k .loop .current-start) (k .loop .current-end) (k .loop .i) (k .loop .inv) (omega arith) (omega (arith, c .before .before .before .before .past .ensures)) (omega arith))
+    omega (arith, c .before .before .before .before .past .ensures, starts-above _ (s .pre .1 .0) (s .pre .1 .1) _ _ _ _ _ _ _ (k .loop .inv) (omega arith) (omega (arith, c .before .before .before .before .past .ensures)) (omega arith))
 
 loop-less : (t : ℕ) → lts.Need-loop-less (
   past-reads.Asked,
@@ -297,9 +282,7 @@ loop-again : (t : ℕ) → lts.Need-loop-again (
 loop-again t c =
     let k = c .before .before .before .before .before .before .before .before in
     let s = k .before in
-    let ns : length (s .args .t1 .starts) ≡ 32 = search needs in
-    let ne : length (s .args .t1 .ends) ≡ 32 = search needs in
-    rw (c .before .before .before .before .past .ensures) (part-above (s .args .t1) (s .pre .1) ns ne (s .args .start) (s .args .end) (s .args .pieces) (k .loop .pieces) (k .loop .current-start) (k .loop .current-end) (k .loop .i) (k .loop .inv) (omega arith) (omega (arith, c .before .before .before .before .past .ensures)) (omega arith) (omega arith) _ (c .check-and-add-free-region .ensures))
+    rw (c .before .before .before .before .past .ensures) (part-above _ (s .pre .1 .0) (s .pre .1 .1) _ _ _ _ _ _ _ (k .loop .inv) (omega arith) (omega (arith, c .before .before .before .before .past .ensures)) (omega arith) (omega arith) _ (c .check-and-add-free-region .ensures))
 
 loop-less-2 : (t : ℕ) → lts.Need-loop-less-2 (
   past-reads.Asked,
@@ -330,9 +313,7 @@ loop-again-2 : (t : ℕ) → lts.Need-loop-again-2 (
 loop-again-2 t c =
     let k = c .before .before .before .before .before .before in
     let s = k .before in
-    let ns : length (s .args .t1 .starts) ≡ 32 = search needs in
-    let ne : length (s .args .t1 .ends) ≡ 32 = search needs in
-    rw (c .before .before .past .ensures) (area-above (s .args .t1) (s .pre .1) ns ne (s .args .start) (s .args .end) (s .args .pieces) (k .loop .pieces) (k .loop .current-start) (k .loop .current-end) (k .loop .i) (k .loop .inv) (omega arith) (omega (arith, c .before .before .past .ensures)) (omega arith))
+    rw (c .before .before .past .ensures) (area-above _ (s .pre .1 .0) (s .pre .1 .1) _ _ _ _ _ _ _ (k .loop .inv) (omega arith) (omega (arith, c .before .before .past .ensures)) (omega arith))
 
 loop-less-3 : (t : ℕ) → lts.Need-loop-less-3 (
   past-reads.Asked,
@@ -363,9 +344,7 @@ loop-again-3 : (t : ℕ) → lts.Need-loop-again-3 (
 loop-again-3 t c =
     let k = c .before .before .before .before .before in
     let s = k .before in
-    let ns : length (s .args .t1 .starts) ≡ 32 = search needs in
-    let ne : length (s .args .t1 .ends) ≡ 32 = search needs in
-    rw (c .before .past .ensures) (area-below (s .args .t1) (s .pre .1) ns ne (s .args .start) (s .args .end) (s .args .pieces) (k .loop .pieces) (k .loop .current-start) (k .loop .current-end) (k .loop .i) (k .loop .inv) (omega arith) (omega (arith, c .before .past .ensures)))
+    rw (c .before .past .ensures) (area-below _ (s .pre .1 .0) (s .pre .1 .1) _ _ _ _ _ _ _ (k .loop .inv) (omega arith) (omega (arith, c .before .past .ensures)))
 
 push-piece-requires-2 :
     (t : ℕ) → lts.Need-push-piece-requires-2 (
@@ -397,9 +376,7 @@ returns-2 : (t : ℕ) → lts.Need-returns-2 (
 returns-2 t c =
     let k = c .before .before in
     let s = k .before in
-    let ns : length (s .args .t1 .starts) ≡ 32 = search needs in
-    let ne : length (s .args .t1 .ends) ≡ 32 = search needs in
-    carved-end (s .args .t1) (s .pre .1) ns ne (s .args .start) (s .args .end) (s .args .pieces) (k .loop .pieces) (k .loop .current-start) (k .loop .current-end) (k .loop .i) (k .loop .inv) (omega arith) _ (c .push-piece2 .ensures)
+    carved-end _ (s .pre .1 .0) (s .pre .1 .1) _ _ _ _ _ _ _ (k .loop .inv) (omega arith) _ (c .push-piece2 .ensures)
 
 pub +check-and-add-free-region-spec : {M : Type 1} → statement M
 +check-and-add-free-region-spec =

@@ -15,30 +15,27 @@ abbrev μ-loop : tie.MeasureT-loop
 loop-holds : tie.Need-loop-holds Inv-loop μ-loop
 loop-holds c = refl
 
-mul-highest : tie.Need-mul-highest Inv-loop μ-loop
-mul-highest c = omega arith
+mul-meet : tie.Need-mul-meet Inv-loop μ-loop
+mul-meet c = omega arith
 
-element-copy-out-highest : tie.Need-element-copy-out-highest Inv-loop μ-loop
-element-copy-out-highest c = omega arith
+element-copy-out-meet : tie.Need-element-copy-out-meet Inv-loop μ-loop
+element-copy-out-meet c = omega arith
 
-highest-requires : tie.Need-highest-requires Inv-loop μ-loop
-highest-requires c κs = tt
+mul-meet-2 : tie.Need-mul-meet-2 Inv-loop μ-loop
+mul-meet-2 c = omega arith
 
-mul-lowest : tie.Need-mul-lowest Inv-loop μ-loop
-mul-lowest c = omega arith
+element-copy-out-meet-2 : tie.Need-element-copy-out-meet-2 Inv-loop μ-loop
+element-copy-out-meet-2 c = omega arith
 
-element-copy-out-lowest : tie.Need-element-copy-out-lowest Inv-loop μ-loop
-element-copy-out-lowest c = omega arith
-
-lowest-requires : tie.Need-lowest-requires Inv-loop μ-loop
-lowest-requires c κs = tt
+meet-requires : tie.Need-meet-requires Inv-loop μ-loop
+meet-requires c κs = tt
 
 returns : tie.Need-returns Inv-loop μ-loop
 returns c =
-    let k = c .before .before .before .before .before .before in
+    let k = c .before .before .before .before .before in
     let s = k .before in
     let a = s .args in
-    sym (k .loop .inv ∙ meets-here (a .start) (a .end) (a .len) (k .loop .i) (a .starts .now) (a .ends .now) (omega arith) (omega (arith, s .pre)) (omega (arith, s .pre)) (omega (arith, c .before .before .before .highest .ensures, c .before .lowest .ensures)))
+    sym (k .loop .inv ∙ meets-here (a .start) (a .end) (a .len) (k .loop .i) (a .starts .now) (a .ends .now) (omega arith) (omega (arith, s .pre)) (omega (arith, s .pre)) (sym (c .before .meet .ensures) ∙ c .if1 .taken))
 
 add-i : tie.Need-add-i Inv-loop μ-loop
 add-i c = omega arith
@@ -48,10 +45,10 @@ loop-less c = omega arith
 
 loop-again : tie.Need-loop-again Inv-loop μ-loop
 loop-again c =
-    let k = c .before .before .before .before .before .before in
+    let k = c .before .before .before .before .before in
     let s = k .before in
     let a = s .args in
-    k .loop .inv ∙ meets-later (a .start) (a .end) (a .len) (k .loop .i) (a .starts .now) (a .ends .now) (omega arith) (omega (arith, s .pre)) (omega (arith, s .pre)) (omega (arith, c .before .before .before .highest .ensures, c .before .lowest .ensures))
+    k .loop .inv ∙ meets-later (a .start) (a .end) (a .len) (k .loop .i) (a .starts .now) (a .ends .now) (omega arith) (omega (arith, s .pre)) (omega (arith, s .pre)) (sym (c .before .meet .ensures) ∙ c .if1 .left)
 
 returns-2 : tie.Need-returns-2 Inv-loop μ-loop
 returns-2 c =
@@ -66,12 +63,11 @@ meets-from-spec =
     Inv-loop
     μ-loop
     loop-holds
-    mul-highest
-    element-copy-out-highest
-    highest-requires
-    mul-lowest
-    element-copy-out-lowest
-    lowest-requires
+    mul-meet
+    element-copy-out-meet
+    mul-meet-2
+    element-copy-out-meet-2
+    meet-requires
     returns
     add-i
     loop-less

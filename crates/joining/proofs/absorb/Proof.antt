@@ -1,5 +1,6 @@
 -- `absorb`: at each turn the first area has taken in what it met of those passed.
 use Prim.Native.Nat.{_-_, _≤_}
+use mathlib.Core.Path.{sym, _∙_}
 use Rattle.carving.specs.Ranges.{rangesIn}
 use Rattle.joining.proofs.Joining.{Absorbing, absorb-start, absorb-met, absorb-not, absorb-end}
 use native.Mathlib.Omega.{arith}
@@ -41,26 +42,23 @@ element-copy-out-other-end c = omega (arith, c .before .before .before .before .
 add-k : tie.Need-add-k Inv-loop μ-loop
 add-k c = omega (arith, c .before .before .before .before .before .before .before .pre .0 .few)
 
-highest-requires : tie.Need-highest-requires Inv-loop μ-loop
-highest-requires c κs = tt
+meet-requires : tie.Need-meet-requires Inv-loop μ-loop
+meet-requires c κs = tt
 
 lowest-requires : tie.Need-lowest-requires Inv-loop μ-loop
 lowest-requires c κs = tt
 
-lowest-requires-2 : tie.Need-lowest-requires-2 Inv-loop μ-loop
-lowest-requires-2 c κs = tt
-
-highest-requires-2 : tie.Need-highest-requires-2 Inv-loop μ-loop
-highest-requires-2 c κs = tt
+highest-requires : tie.Need-highest-requires Inv-loop μ-loop
+highest-requires c κs = tt
 
 loop-less : tie.Need-loop-less Inv-loop μ-loop
 loop-less c = omega arith
 
 loop-again : tie.Need-loop-again Inv-loop μ-loop
 loop-again c =
-    let k = c .before .before .before .before .before .before .before .before in
+    let k = c .before .before .before .before .before .before .before in
     let s = k .before .before .before .before in
-    rw (c .before .lowest2 .ensures, c .highest2 .ensures) (omega arith, absorb-met (s .args .t1) (s .pre .0) (k .loop .start) (k .loop .end) (k .loop .rest) (k .loop .k) (k .loop .inv .1) (omega arith) (omega (arith, c .before .before .before .before .highest .ensures, c .before .before .before .lowest .ensures)))
+    rw (c .before .lowest .ensures, c .highest .ensures) (omega arith, absorb-met (s .args .t1) (s .pre .0) (k .loop .start) (k .loop .end) (k .loop .rest) (k .loop .k) (k .loop .inv .1) (omega arith) (sym (c .before .before .before .meet .ensures) ∙ c .before .before .if1 .taken))
 
 push-requires : tie.Need-push-requires Inv-loop μ-loop
 push-requires c κs = tt
@@ -70,9 +68,9 @@ loop-less-2 c = omega arith
 
 loop-again-2 : tie.Need-loop-again-2 Inv-loop μ-loop
 loop-again-2 c =
-    let k = c .before .before .before .before .before .before .before in
+    let k = c .before .before .before .before .before .before in
     let s = k .before .before .before .before in
-    (omega arith, absorb-not (s .args .t1) (s .pre .0) (k .loop .start) (k .loop .end) (k .loop .rest) (k .loop .k) (k .loop .inv .1) (omega arith) (omega (arith, c .before .before .before .highest .ensures, c .before .before .lowest .ensures)) _ (c .push .ensures))
+    (omega arith, absorb-not (s .args .t1) (s .pre .0) (k .loop .start) (k .loop .end) (k .loop .rest) (k .loop .k) (k .loop .inv .1) (omega arith) (sym (c .before .before .meet .ensures) ∙ c .before .if1 .left) _ (c .push .ensures))
 
 returns : tie.Need-returns Inv-loop μ-loop
 returns c =
@@ -95,10 +93,9 @@ absorb-spec =
     mul-other-end
     element-copy-out-other-end
     add-k
-    highest-requires
+    meet-requires
     lowest-requires
-    lowest-requires-2
-    highest-requires-2
+    highest-requires
     loop-less
     loop-again
     push-requires
