@@ -1,47 +1,47 @@
+-- `bytes_at`: 2, or the frames that the bytes need from the address on.
+use native.Mathlib.Omega.{arith}
+use mathlib.Core.Path.{sym}
+use Rattle.model.specs.Store.{load}
+use Rattle.taking.proofs.Taken.{does-refuse}
+use Rattle.requests.proofs.Asked.{address-over, address-bytes-over, address-bytes-on, does-as}
 use borrow.Author.Needs.{needs}
 use Rattle.requests.proofs.met.bytes_at.Statement.{statement}
 use Rattle.requests.proofs.met.bytes_at.Tie as tie
-use Rattle.requests.proofs.met.bytes_at.Reads as reads
-use Rattle.requests.proofs.met.bytes_at.Lts as lts
-use Rattle.requests.proofs.met.frames_at.Reads as frames-at-reads
-use Rattle.requests.proofs.met.frames_of.Reads as frames-of-reads
-use Rattle.rules.proofs.refused.Reads as refused-reads
 
--- src/met.rt:83:9
 refused-requires : tie.Need-refused-requires
 refused-requires c κs = search needs
 
--- src/met.rt:83:9
 returns : tie.Need-returns
-returns c = ?
+returns c =
+    let s = c .before .before .before in
+    does-refuse (s .args .a) (s .args .words .now) (s .pre) 2 _ (c .refused .ensures) _ (address-over _ _ _ (c .before .if1 .taken))
 
--- src/met.rt:86:9
 refused-requires-2 : tie.Need-refused-requires-2
 refused-requires-2 c κs = search needs
 
--- src/met.rt:86:9
 returns-2 : tie.Need-returns-2
-returns-2 c = ?
+returns-2 c =
+    let s = c .before .before .before .before in
+    does-refuse (s .args .a) (s .args .words .now) (s .pre) 2 _ (c .refused2 .ensures) _ (address-bytes-over _ _ _ (c .before .before .if1 .left) (c .before .if2 .taken))
 
--- src/met.rt:88:32
 add-frames-of : tie.Need-add-frames-of
 add-frames-of c = search needs
 
--- src/met.rt:88:9
 frames-of-requires : tie.Need-frames-of-requires
 frames-of-requires c κs = search needs
 
--- src/met.rt:89:5
 frames-at-requires : tie.Need-frames-at-requires
 frames-at-requires c κs = search needs
 
--- src/met.rt:78:1
 same-length : tie.Need-same-length
 same-length c = search needs
 
--- src/met.rt:78:1
 returns-3 : tie.Need-returns-3
-returns-3 c = ?
+returns-3 c =
+    let k = c .before .before in
+    let f = k .before .before in
+    let s = f .before .before .before .before in
+    does-as (sym (address-bytes-on (s .args .address) (s .args .num-bytes) (load (s .args .a) (s .args .words .now)) (f .before .before .if1 .left) (f .before .if2 .left) (f .frames-of .result) (f .frames-of .ensures))) (k .frames-at .ensures)
 
 pub bytes-at-spec : {M : Type 1} → statement M
 bytes-at-spec =

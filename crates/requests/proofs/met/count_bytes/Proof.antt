@@ -1,35 +1,36 @@
+-- `count_bytes`: 2, or the frames that the bytes need.
+use native.Mathlib.Omega.{arith}
+use mathlib.Core.Path.{sym}
+use Rattle.model.specs.Store.{load}
+use Rattle.taking.proofs.Taken.{does-refuse}
+use Rattle.requests.proofs.Asked.{bytes-over, bytes-on, does-as}
 use borrow.Author.Needs.{needs}
 use Rattle.requests.proofs.met.count_bytes.Statement.{statement}
 use Rattle.requests.proofs.met.count_bytes.Tie as tie
-use Rattle.requests.proofs.met.count_bytes.Reads as reads
-use Rattle.requests.proofs.met.count_bytes.Lts as lts
-use Rattle.requests.proofs.met.count_frames.Reads as count-frames-reads
-use Rattle.requests.proofs.met.frames_of.Reads as frames-of-reads
-use Rattle.rules.proofs.refused.Reads as refused-reads
 
--- src/met.rt:48:9
 refused-requires : tie.Need-refused-requires
 refused-requires c κs = search needs
 
--- src/met.rt:48:9
 returns : tie.Need-returns
-returns c = ?
+returns c =
+    let s = c .before .before .before in
+    does-refuse (s .args .a) (s .args .words .now) (s .pre) 2 _ (c .refused .ensures) _ (bytes-over _ _ (c .before .if1 .taken))
 
--- src/met.rt:50:28
 frames-of-requires : tie.Need-frames-of-requires
 frames-of-requires c κs = search needs
 
--- src/met.rt:50:5
 count-frames-requires : tie.Need-count-frames-requires
 count-frames-requires c κs = search needs
 
--- src/met.rt:43:1
 same-length : tie.Need-same-length
 same-length c = search needs
 
--- src/met.rt:43:1
 returns-2 : tie.Need-returns-2
-returns-2 c = ?
+returns-2 c =
+    let k = c .before .before in
+    let f = k .before in
+    let s = f .before .before .before .before in
+    does-as (sym (bytes-on (s .args .num-bytes) (f .frames-of .result) (load (s .args .a) (s .args .words .now)) (f .before .before .if1 .left) (f .frames-of .ensures))) (k .count-frames .ensures)
 
 pub count-bytes-spec : {M : Type 1} → statement M
 count-bytes-spec =

@@ -1,55 +1,70 @@
+-- `count_frames`: 1, 14, or the beginning of the chunk that was found.
+use mathlib.Core.Path.{_≡_, sym, ap, _∙_}
+use native.Mathlib.Omega.{arith}
+use Rattle.model.specs.Lists.{at}
+use Rattle.model.specs.Requests.{largeEnough}
+use Rattle.model.specs.Store.{load}
+use Rattle.tables.specs.Words.{placeOf}
+use Rattle.taking.proofs.Taken.{does-refuse}
+use Rattle.requests.proofs.Asked.{count-none, count-on, no-chunk, does-as}
 use borrow.Author.Needs.{needs}
 use Rattle.requests.proofs.met.count_frames.Statement.{statement}
 use Rattle.requests.proofs.met.count_frames.Tie as tie
-use Rattle.requests.proofs.met.count_frames.Reads as reads
-use Rattle.requests.proofs.met.count_frames.Lts as lts
-use Rattle.requests.proofs.met.find_any_chunk.Reads as find-any-chunk-reads
-use Rattle.requests.proofs.met.take_beginning.Reads as take-beginning-reads
-use Rattle.rules.proofs.refused.Reads as refused-reads
 
--- src/met.rt:34:9
 refused-requires : tie.Need-refused-requires
 refused-requires c κs = search needs
 
--- src/met.rt:34:9
 returns : tie.Need-returns
-returns c = ?
+returns c =
+    let s = c .before .before .before in
+    does-refuse (s .args .a) (s .args .words .now) (s .pre) 1 _ (c .refused .ensures) _ (count-none _ _ (c .before .if1 .taken))
 
--- src/met.rt:36:11
 find-any-chunk-requires : tie.Need-find-any-chunk-requires
 find-any-chunk-requires c κs = search needs
 
--- src/met.rt:37:27
 enum-told : tie.Need-enum-told
 enum-told c = search needs
 
--- src/met.rt:37:27
 refused-requires-2 : tie.Need-refused-requires-2
 refused-requires-2 c κs = search needs
 
--- src/met.rt:38:19
 enum-known-i : tie.Need-enum-known-i
 enum-known-i c = search needs
 
--- src/met.rt:38:25
-take-beginning-requires : tie.Need-take-beginning-requires
-take-beginning-requires c κs = ?
+-- the chunk that was found
+found : (c : tie.After-i) → largeEnough (c .before .before .before .before .before .before .args .a .sorted) (c .before .before .before .before .before .before .args .num-frames) (load (c .before .before .before .before .before .before .args .a) (c .before .before .before .before .before .before .args .words .now) .generalFree) ≡ at (c .i .given .0 .0)
+found c = sym (c .before .before .find-any-chunk .ensures) ∙ ap placeOf (c .i .given .1)
 
--- src/met.rt:29:1
+take-beginning-requires : tie.Need-take-beginning-requires
+unfolding load
+take-beginning-requires c κs =
+    let k = c .before .before .before .before in
+    let s = k .before .before .before .before in
+    (s .pre, (omega (arith, k .before .before .if1 .left), found (c .before .before)))
+
 same-length : tie.Need-same-length
 same-length c = search needs
 
--- src/met.rt:29:1
 returns-2 : tie.Need-returns-2
-returns-2 c = ?
+unfolding load
+returns-2 c =
+    let k = c .before .before .before in
+    let s = k .before .before .before .before in
+    let l = load (s .args .a) (s .args .words .now) in
+    does-refuse (s .args .a) (s .args .words .now) (s .pre) 14 _ (c .refused2 .ensures) _
+    (count-on (s .args .num-frames) l (k .before .before .if1 .left) _ (sym (k .find-any-chunk .ensures) ∙ ap placeOf (c .before .enum-told .given .1)) ∙ no-chunk (s .args .num-frames) l)
 
--- src/met.rt:29:1
 same-length-2 : tie.Need-same-length-2
 same-length-2 c = search needs
 
--- src/met.rt:29:1
 returns-3 : tie.Need-returns-3
-returns-3 c = ?
+unfolding load
+returns-3 c =
+    let t = c .before .before in
+    let i = t .before .before .before in
+    let k = i .before .before in
+    let s = k .before .before .before .before in
+    does-as (count-on (s .args .num-frames) (load (s .args .a) (s .args .words .now)) (k .before .before .if1 .left) _ (found i)) (t .take-beginning .ensures)
 
 pub count-frames-spec : {M : Type 1} → statement M
 count-frames-spec =

@@ -1,80 +1,102 @@
+-- `in_general_list`: by what the search in the general list finds.
+use mathlib.Core.Path.{_≡_, sym, ap, _∙_}
+use Rattle.memory_structs.specs.Range.{range}
+use Rattle.model.specs.Requests.{find, chunks}
+use Rattle.model.specs.Store.{load}
+use Rattle.lists.specs.Record.{slotsAt}
+use Rattle.grants.specs.Grants.{Chooses}
+use Rattle.chunks.specs.Searches.{foundOf}
+use Rattle.chunks.proofs.Chosen.{search-chooses}
+use Rattle.taking.proofs.Taken.{does-refuse}
+use Rattle.requests.proofs.Asked.{does-as}
+use Rattle.requests.proofs.Searched.{general-not, general-missing, general-short, general-chunks}
 use borrow.Author.Needs.{needs}
 use Rattle.requests.proofs.met.in_general_list.Statement.{statement}
 use Rattle.requests.proofs.met.in_general_list.Tie as tie
-use Rattle.requests.proofs.met.in_general_list.Reads as reads
-use Rattle.requests.proofs.met.in_general_list.Lts as lts
-use Rattle.growth.proofs.grow_whole.Reads as grow-whole-reads
-use Rattle.rules.proofs.refused.Reads as refused-reads
-use Rattle.taking.proofs.find_specific_chunk.Reads as find-specific-chunk-reads
-use Rattle.taking.proofs.take.Reads as take-reads
 
--- src/met.rt:129:11
 find-specific-chunk-requires : tie.Need-find-specific-chunk-requires
 find-specific-chunk-requires c κs = search needs
 
--- src/met.rt:130:51
 enum-told : tie.Need-enum-told
 enum-told c = search needs
 
--- src/met.rt:130:29
 grow-whole-requires : tie.Need-grow-whole-requires
 grow-whole-requires c κs = search needs
 
--- src/met.rt:131:31
 enum-told-2 : tie.Need-enum-told-2
 enum-told-2 c = search needs
 
--- src/met.rt:131:31
 refused-requires : tie.Need-refused-requires
 refused-requires c κs = search needs
 
--- src/met.rt:132:29
 enum-told-3 : tie.Need-enum-told-3
 enum-told-3 c = search needs
 
--- src/met.rt:132:29
 refused-requires-2 : tie.Need-refused-requires-2
 refused-requires-2 c κs = search needs
 
--- src/met.rt:133:24
 enum-known-chosen : tie.Need-enum-known-chosen
 enum-known-chosen c = search needs
 
--- src/met.rt:133:35
-take-requires : tie.Need-take-requires
-take-requires c κs = ?
+-- the chunks that were found
+found : (c : tie.After-chosen) → find (c .before .before .before .before .before .args .a .sorted) (range (c .before .before .before .before .before .args .start) (c .before .before .before .before .before .args .end)) (load (c .before .before .before .before .before .args .a) (c .before .before .before .before .before .args .words .now) .generalFree)
+    ≡ chunks (c .chosen .given .0 .0 .first) (c .chosen .given .0 .0 .many) (range (c .chosen .given .0 .0 .start) (c .chosen .given .0 .0 .end))
+unfolding foundOf slotsAt
+found c = sym (c .before .before .find-specific-chunk .ensures) ∙ ap foundOf (c .chosen .given .1)
 
--- src/met.rt:123:1
+take-requires : tie.Need-take-requires
+unfolding load slotsAt foundOf
+take-requires c κs =
+    let f = c .before .before in
+    let s = f .before .before .before .before .before in
+    (s .pre .0, search-chooses (s .args .a .sorted) (load (s .args .a) (s .args .words .now) .generalFree) (f .chosen .given .0 .0) (s .args .start) (s .args .end) (s .pre .1 .0) (found f))
+
 same-length : tie.Need-same-length
 same-length c = search needs
 
--- src/met.rt:123:1
 returns : tie.Need-returns
-returns c = ?
+unfolding load slotsAt foundOf
+returns c =
+    let g = c .before .before in
+    let e = g .before .before in
+    let k = e .before .before in
+    let s = k .before .before .before in
+    does-as (general-not (load (s .args .a) (s .args .words .now)) (s .args .start) (s .args .end) (sym (k .find-specific-chunk .ensures) ∙ ap foundOf (e .enum-told .given .1))) (g .grow-whole .ensures)
 
--- src/met.rt:123:1
 same-length-2 : tie.Need-same-length-2
 same-length-2 c = search needs
 
--- src/met.rt:123:1
 returns-2 : tie.Need-returns-2
-returns-2 c = ?
+unfolding load slotsAt foundOf
+returns-2 c =
+    let e = c .before in
+    let k = e .before .before in
+    let s = k .before .before .before in
+    does-refuse (s .args .a) (s .args .words .now) (s .pre .0) 12 _ (c .refused .ensures) _
+    (general-missing (load (s .args .a) (s .args .words .now)) (s .args .start) (s .args .end) _ _ (sym (k .find-specific-chunk .ensures) ∙ ap foundOf (e .enum-told2 .given .1)))
 
--- src/met.rt:123:1
 same-length-3 : tie.Need-same-length-3
 same-length-3 c = search needs
 
--- src/met.rt:123:1
 returns-3 : tie.Need-returns-3
-returns-3 c = ?
+unfolding load slotsAt foundOf
+returns-3 c =
+    let e = c .before in
+    let k = e .before .before in
+    let s = k .before .before .before in
+    does-refuse (s .args .a) (s .args .words .now) (s .pre .0) 17 _ (c .refused2 .ensures) _
+    (general-short (load (s .args .a) (s .args .words .now)) (s .args .start) (s .args .end) (sym (k .find-specific-chunk .ensures) ∙ ap foundOf (e .enum-told3 .given .1)))
 
--- src/met.rt:123:1
 same-length-4 : tie.Need-same-length-4
 same-length-4 c = search needs
 
--- src/met.rt:123:1
 returns-4 : tie.Need-returns-4
-returns-4 c = ?
+unfolding load slotsAt foundOf
+returns-4 c =
+    let t = c .before .before in
+    let f = t .before .before .before in
+    let s = f .before .before .before .before .before in
+    does-as (general-chunks (load (s .args .a) (s .args .words .now)) (s .args .start) (s .args .end) (f .chosen .given .0 .0) (found f)) (t .take .ensures)
 
 pub in-general-list-spec : {M : Type 1} → statement M
 in-general-list-spec =
