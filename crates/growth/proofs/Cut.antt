@@ -8,7 +8,7 @@ use lib.ListN.{length}
 use Rattle.memory_structs.specs.Range.{range}
 use Rattle.memory_structs.specs.declared.range.FrameRange.{FrameRange}
 use Rattle.model.specs.Lists.{Lists, Slot, entries, insert, bound}
-use Rattle.model.specs.Requests.{Result, missing, find, granted, grow}
+use Rattle.model.specs.Requests.{missing, find, grow}
 use Rattle.model.specs.Rules.{tidy}
 use Rattle.model.specs.Store.{load, wordsOf}
 use Rattle.model.specs.declared.Called.{Called}
@@ -19,7 +19,7 @@ use Rattle.model.proofs.Ruled.{tidy-is}
 use Rattle.model.proofs.Stored.{Storable}
 use Rattle.model.proofs.Whole.{storables, words-over}
 use Rattle.lists.specs.declared.record.WhichList.the-variants.{ReservedFree, ReservedRegions}
-use Rattle.lists.specs.Record.{slotsAt, withSlots, AllStored}
+use Rattle.lists.specs.Record.{withSlots, AllStored}
 use Rattle.rules.specs.Check.{Ruled, Does}
 use Rattle.rules.proofs.Going.{ruled-stands, stored-stands, stands-ruled}
 use Rattle.grants.specs.declared.Chosen.{Chosen}

@@ -1,10 +1,10 @@
 -- Growth: the numbers that refuse it, and growth by the whole request.
-use Prim.Native.Nat.{ℕ, _+_, _-_, _≤_, _<_}
+use Prim.Native.Nat.{ℕ, _-_, _≤_, _<_}
 use native.Mathlib.Omega.{arith}
 use mathlib.Core.Path.{_≡_, refl, sym, ap, _∙_}
-use mathlib.Core.Bool.{Bool, true, false, not, _&&_, _||_}
+use mathlib.Core.Bool.{Bool, true, false, not, _&&_}
 use mathlib.Core.List.{List}
-use lib.Dec.{leb, ltb}
+use lib.Dec.{leb}
 use lib.ListN.{length}
 use borrow.Author.Tests.{leb-false, le-leb, lt-leb, le-ltb}
 use Rattle.memory_structs.specs.Choice.{if_then_else_}
@@ -12,7 +12,7 @@ use Rattle.memory_structs.specs.Range.{meets}
 use Rattle.memory_structs.specs.declared.range.FrameRange.{FrameRange}
 use Rattle.memory_structs.proofs.Bools.{neither-first, neither-second}
 use Rattle.model.specs.Lists.{Lists, Slot, entries, anyOf, insert, bound}
-use Rattle.model.specs.Requests.{Result, Found, notFound, chunks, find, grantFrom, entriesAfter, refused, granted, withReserved, fromGrown, noRoomToGrow, grow}
+use Rattle.model.specs.Requests.{Result, notFound, find, entriesAfter, refused, granted, withReserved, fromGrown, noRoomToGrow, grow}
 use Rattle.model.specs.Rules.{slotted, tidy}
 use Rattle.model.specs.Store.{load}
 use Rattle.model.specs.declared.FrameAllocator.{FrameAllocator}
@@ -22,7 +22,7 @@ use Rattle.lists.specs.Record.{slotsAt, withSlots}
 use Rattle.lists.proofs.Whole.{tidy-list}
 use Rattle.rules.specs.Check.{Ruled}
 use Rattle.rules.proofs.Going.{ruled}
-use Rattle.chunks.proofs.Grown.{WholeGrown, whole-grown}
+use Rattle.chunks.proofs.Grown.{whole-grown}
 use Rattle.growth.specs.Grows.{growthNumber}
 
 -- no room, test by test

@@ -11,7 +11,7 @@ use Rattle.memory_structs.specs.Choice.{if_then_else_}
 use Rattle.memory_structs.specs.Range.{range}
 use Rattle.memory_structs.specs.declared.range.FrameRange.{FrameRange}
 use Rattle.model.specs.Lists.{Lists, Slot, used, entries, rangeAt, insert, insertSorted, remove, replaceAt, bound}
-use Rattle.model.specs.Requests.{Found, missing, chunks, find, grantFrom, entriesAfter, granted, takeReserved, fromGrown, grow}
+use Rattle.model.specs.Requests.{missing, chunks, find, grantFrom, entriesAfter, granted, takeReserved, fromGrown, grow}
 use Rattle.model.specs.Rules.{tidy}
 use Rattle.model.proofs.Lawful.{Lawful, Holds, Fit, find-fit, one-holds}
 use Rattle.model.proofs.Steps.{take-reserved}
@@ -24,8 +24,8 @@ use Rattle.grants.proofs.Grant.{grant-none, grant-before}
 use Rattle.grants.proofs.Places.{replaced-one}
 use Rattle.grants.proofs.Entries.{leftover-bound, no-leftover, taken-out, left-is}
 use Rattle.model.proofs.Stored.{Storable}
-use Rattle.chunks.proofs.Grown.{TailGrown, tail-grown}
-use Rattle.growth.specs.Grows.{growthNumber, LastChunk}
+use Rattle.chunks.proofs.Grown.{TailGrown}
+use Rattle.growth.specs.Grows.{LastChunk}
 use Rattle.growth.proofs.Growing.{Open, grown, grow-on}
 
 -- only sorted form misses a tail

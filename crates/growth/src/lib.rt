@@ -4,7 +4,7 @@ ghost use mathlib.Core.Path.{_≡_};
 ghost use mathlib.Core.Bool.{true};
 ghost use Prim.Native.Nat.{_+_, _-_, _≤_, _<_};
 ghost use lib.ListN.{length};
-ghost use Rattle.memory_structs.specs.Range.{range, top};
+ghost use Rattle.memory_structs.specs.Range.{range};
 ghost use Rattle.model.specs.Lists as model;
 ghost use Rattle.model.specs.Requests.{find, notFound, missing, grow, noRoomToGrow};
 ghost use Rattle.model.specs.Store.{load};

@@ -1,15 +1,15 @@
 -- Requests, test by test and by what the searches find.
 use Prim.Native.Nat.{ℕ, _+_, _-_, _/_, _%_, _≤_, _<_}
 use native.Mathlib.Omega.{arith}
-use mathlib.Core.Path.{_≡_, refl, sym, ap, subst, _∙_}
+use mathlib.Core.Path.{_≡_, refl, sym, ap, subst}
 use mathlib.Core.Bool.{Bool, true, false}
 use mathlib.Core.List.{List}
 use lib.Dec.{ltb, eqb}
 use borrow.Author.Tests.{eq-eqb, ne-eqb, eqb-false, ltb-false, lt-ltb, le-ltb, le-leb, lt-leb}
 use Rattle.memory_structs.specs.Choice.{if_then_else_}
 use Rattle.memory_structs.specs.Range.{range, top, addressLimit, frameSize}
-use Rattle.model.specs.Lists.{Lists, Place, nowhere, at}
-use Rattle.model.specs.Requests.{Result, Found, find, refused, refusedMissing, fromPlace, largeEnough, byCount, framesOf, byBytes, inReserved, byAddress, byAddressBytes, onlyGeneral, byAddressGeneral}
+use Rattle.model.specs.Lists.{Lists, Place, nowhere}
+use Rattle.model.specs.Requests.{Result, find, refused, refusedMissing, fromPlace, largeEnough, byCount, framesOf, byBytes, inReserved, byAddress, byAddressBytes, onlyGeneral, byAddressGeneral}
 use Rattle.model.specs.Store.{load}
 use Rattle.model.specs.declared.Called.{Called}
 use Rattle.model.specs.declared.FrameAllocator.{FrameAllocator}

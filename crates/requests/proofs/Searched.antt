@@ -1,13 +1,13 @@
 -- What a request comes to, by what the searches find.
-use Prim.Native.Nat.{ℕ, _+_, _-_, _≤_, _<_}
+use Prim.Native.Nat.{ℕ, _+_, _-_, _<_}
 use native.Mathlib.Omega.{arith}
-use mathlib.Core.Path.{_≡_, refl, sym, ap, subst, _∙_}
+use mathlib.Core.Path.{_≡_, sym, ap, subst, _∙_}
 use mathlib.Core.Bool.{Bool, true}
 use mathlib.Core.List.{List}
 use Rattle.memory_structs.specs.Range.{range}
 use Rattle.memory_structs.specs.declared.range.FrameRange.{FrameRange}
 use Rattle.model.specs.Lists.{Lists, Slot, at, rangeAt}
-use Rattle.model.specs.Requests.{Found, notFound, missing, tooShort, chunks, find, refused, refusedMissing, takeGeneral, takeReserved, fromPlace, grow, inGeneral, inReserved, onlyGeneral}
+use Rattle.model.specs.Requests.{Found, notFound, missing, tooShort, chunks, find, refused, refusedMissing, takeGeneral, fromPlace, grow, inGeneral, inReserved, onlyGeneral}
 use Rattle.model.specs.Rules.{tidy}
 use Rattle.model.proofs.Lawful.{Fit, find-fit}
 use Rattle.model.proofs.Ruled.{tidy-is}

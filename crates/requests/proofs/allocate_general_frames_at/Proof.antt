@@ -1,5 +1,5 @@
 -- `allocate_general_frames_at`: refused by 3 or 11, or met.
-use mathlib.Core.Path.{_≡_, refl, sym, subst, _∙_}
+use mathlib.Core.Path.{refl, sym, subst, _∙_}
 use Rattle.model.specs.Calls.{generalCall, Gives, answer, shortBuffer}
 use Rattle.model.specs.declared.Called.{Called}
 use Rattle.rules.proofs.Numbers.{checked-ruled, gives-refused}

@@ -1,5 +1,4 @@
 -- `bytes_at`: 2, or the frames that the bytes need from the address on.
-use native.Mathlib.Omega.{arith}
 use mathlib.Core.Path.{sym}
 use Rattle.model.specs.Store.{load}
 use Rattle.taking.proofs.Taken.{does-refuse}

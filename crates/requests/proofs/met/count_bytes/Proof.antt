@@ -1,5 +1,4 @@
 -- `count_bytes`: 2, or the frames that the bytes need.
-use native.Mathlib.Omega.{arith}
 use mathlib.Core.Path.{sym}
 use Rattle.model.specs.Store.{load}
 use Rattle.taking.proofs.Taken.{does-refuse}

@@ -3,7 +3,7 @@ use Prim.Native.Nat.{_+_, _-_, _≤_}
 use native.Mathlib.Omega.{arith}
 use mathlib.Core.Path.{_≡_, refl, sym, ap, _∙_}
 use Rattle.memory_structs.specs.Range.{range}
-use Rattle.model.specs.Requests.{find, notFound, missing, chunks}
+use Rattle.model.specs.Requests.{find, missing, chunks}
 use Rattle.model.specs.Store.{load}
 use Rattle.lists.specs.Record.{slotsAt}
 use Rattle.chunks.specs.Searches.{foundOf}

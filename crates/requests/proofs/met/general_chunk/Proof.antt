@@ -2,7 +2,6 @@
 use native.Mathlib.Omega.{arith}
 use mathlib.Core.Path.{refl, ap, _∙_}
 use lib.ListN.{length}
-use Rattle.memory_structs.specs.declared.range.FrameRange.{FrameRange}
 use Rattle.model.specs.Lists.{rangeAt}
 use Rattle.lists.specs.declared.record.WhichList.the-variants.{GeneralFree}
 use Rattle.lists.specs.Record.{partOf, slotsAt}

@@ -4,7 +4,6 @@ use Rattle.memory_structs.specs.Range.{range}
 use Rattle.model.specs.Requests.{find, chunks}
 use Rattle.model.specs.Store.{load}
 use Rattle.lists.specs.Record.{slotsAt}
-use Rattle.grants.specs.Grants.{Chooses}
 use Rattle.chunks.specs.Searches.{foundOf}
 use Rattle.chunks.proofs.Chosen.{search-chooses}
 use Rattle.taking.proofs.Taken.{does-refuse}

@@ -3,7 +3,6 @@ use Prim.Native.Nat.{ℕ, _+_, _-_, _≤_}
 use native.Mathlib.Omega.{arith}
 use mathlib.Core.Path.{_≡_, refl, sym, subst}
 use Rattle.memory_structs.specs.Range.{top}
-use Rattle.model.specs.Lists.{rangeAt}
 use Rattle.model.specs.Store.{load}
 use Rattle.lists.specs.declared.record.WhichList.the-variants.{GeneralFree}
 use Rattle.lists.specs.Record.{slotsAt}
@@ -12,7 +11,6 @@ use Rattle.rules.proofs.Going.{ruled}
 use Rattle.grants.specs.declared.Chosen.{Chosen}
 use Rattle.grants.specs.Grants.{Chooses}
 use Rattle.chunks.proofs.Chosen.{place-chooses, place-low}
-use Rattle.requests.specs.Asks.{oneChunk}
 use Rattle.requests.proofs.Asked.{does-as}
 use Rattle.requests.proofs.Searched.{place-taken}
 use borrow.Author.Needs.{needs}
