@@ -1,15 +1,15 @@
 // Replays the boots of a fixed list. A line of standard input is `boot` or `boot_bytes` and its areas, each as two numbers and a kind:
 // the boot of a fresh record with a workspace of 4,096 words. A word may stand before it:
 //
-//   again         boots what the boot has left
 //   booted        boots a record that was booted from frame 0
 //   short         boots with a workspace of 4,095 words
 //   broken_slot   boots a record that breaks a rule: a slot is used and has no frame
 //   broken_word   boots a record that breaks another: it is in sorted form, and an unused word is not 0
 //   sorted        boots an empty record in sorted form
+//   again         boots what the boot has left
 //   sort          sorts what the boot has left
 //   sort_again    sorts that once more
-//   sort_boot     boots what that sort has left
+//   sort_boot     boots what the sort has left
 //
 // A line of standard output is what the last call answers. The file `stdout` holds what document 01 and the Rust answer;
 // oracle/README.md says how it was made.

@@ -6,12 +6,12 @@ use lines::Word;
 // What is booted, and what is done after it: see `main`.
 pub enum Way {
     Plain,
-    Again,
     Booted,
     Short,
     BrokenSlot,
     BrokenWord,
     Sorted,
+    Again,
     Sort,
     SortAgain,
     SortBoot,
@@ -19,9 +19,6 @@ pub enum Way {
 
 // The way that this word names; a boot that begins with its own name is plain.
 pub fn way_of(word: &[u8]) -> Way {
-    if check::same(word, b"again") {
-        return Way::Again;
-    }
     if check::same(word, b"booted") {
         return Way::Booted;
     }
@@ -36,6 +33,9 @@ pub fn way_of(word: &[u8]) -> Way {
     }
     if check::same(word, b"sorted") {
         return Way::Sorted;
+    }
+    if check::same(word, b"again") {
+        return Way::Again;
     }
     if check::same(word, b"sort") {
         return Way::Sort;

@@ -10,12 +10,12 @@ use model::FrameAllocator;
 pub fn boot(way: Way, areas: &[u64], unit: AreaUnit) {
     match way {
         Way::Plain => plain(areas, unit),
-        Way::Again => again(areas, unit),
         Way::Booted => booted(areas, unit),
         Way::Short => short(areas, unit),
         Way::BrokenSlot => broken_slot(areas, unit),
         Way::BrokenWord => broken_word(areas, unit),
         Way::Sorted => sorted(areas, unit),
+        Way::Again => again(areas, unit),
         Way::Sort => sort(areas, unit),
         Way::SortAgain => sort_again(areas, unit),
         Way::SortBoot => sort_boot(areas, unit),
@@ -32,12 +32,6 @@ fn init(a: FrameAllocator, areas: &[u64], unit: AreaUnit, words: &[u64]) -> Call
 fn plain(areas: &[u64], unit: AreaUnit) {
     let words = [0; 4096];
     answers::called(init(lists::fresh(), areas, unit, &words), &words);
-}
-
-fn again(areas: &[u64], unit: AreaUnit) {
-    let words = [0; 4096];
-    let booted = init(lists::fresh(), areas, unit, &words).allocator;
-    answers::called(init(booted, areas, unit, &words), &words);
 }
 
 fn booted(areas: &[u64], unit: AreaUnit) {
@@ -75,6 +69,12 @@ fn sorted(areas: &[u64], unit: AreaUnit) {
     let mut words = [1; 4096];
     let empty = sort::convert_frame_allocator_to_heap_based(lists::fresh(), &mut words).allocator;
     answers::called(init(empty, areas, unit, &words), &words);
+}
+
+fn again(areas: &[u64], unit: AreaUnit) {
+    let words = [0; 4096];
+    let booted = init(lists::fresh(), areas, unit, &words).allocator;
+    answers::called(init(booted, areas, unit, &words), &words);
 }
 
 // Early form leaves the words as they are, so they may hold anything.

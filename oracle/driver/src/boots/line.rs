@@ -7,40 +7,40 @@ use super::theirs::{self, Result};
 use crate::call::Range;
 use std::fmt;
 
-/// What is booted, or what is done with what a boot of a fresh record has left.
+/// What is done with a boot's areas. All but the first six begin with a boot of a fresh record.
 #[derive(Clone, Copy, PartialEq, Eq, Hash)]
 pub enum Way {
-    /// A fresh record.
+    /// Boot a fresh record.
     Plain,
-    /// What the boot has left.
-    Again,
-    /// A record that was booted from frame 0.
+    /// Boot a record that was booted from frame 0.
     Booted,
-    /// With 4,095 words.
+    /// Boot with 4,095 words.
     Short,
-    /// A record with a used slot that has no frame.
+    /// Boot a record with a used slot that has no frame.
     BrokenSlot,
-    /// An empty record in sorted form with an unused word that is not 0.
+    /// Boot an empty record in sorted form with an unused word that is not 0.
     BrokenWord,
-    /// An empty record in sorted form.
+    /// Boot an empty record in sorted form.
     Sorted,
-    /// What the boot has left is sorted.
+    /// Boot what the first boot has left.
+    Again,
+    /// Sort it.
     Sort,
-    /// And sorted once more.
+    /// Sort it twice.
     SortAgain,
-    /// Or booted.
+    /// Sort it, and boot what the sort has left.
     SortBoot,
 }
 
 impl Way {
     /// All but a plain boot.
     pub const OTHERS: [Way; 9] = [
-        Way::Again,
         Way::Booted,
         Way::Short,
         Way::BrokenSlot,
         Way::BrokenWord,
         Way::Sorted,
+        Way::Again,
         Way::Sort,
         Way::SortAgain,
         Way::SortBoot,
@@ -50,12 +50,12 @@ impl Way {
     fn word(self) -> &'static str {
         match self {
             Way::Plain => "",
-            Way::Again => "again ",
             Way::Booted => "booted ",
             Way::Short => "short ",
             Way::BrokenSlot => "broken_slot ",
             Way::BrokenWord => "broken_word ",
             Way::Sorted => "sorted ",
+            Way::Again => "again ",
             Way::Sort => "sort ",
             Way::SortAgain => "sort_again ",
             Way::SortBoot => "sort_boot ",
@@ -83,15 +83,15 @@ impl Line {
     /// What the last call answers: the form and the four lists, or the number of the refusal.
     pub fn answer(&self) -> String {
         match self.way {
-            Way::Short => refused(3),
-            Way::BrokenSlot | Way::BrokenWord => refused(11),
             Way::Plain => booted(&Judgement::of(&self.boot, false)),
-            Way::Sorted => booted(&Judgement::of(&self.boot, true)),
-            Way::Again => boot_again(&self.boot, &boot_first(&self.boot)),
             Way::Booted => {
                 let first = boot_first(&Boot::of_frames(&[general(0, 0)]));
                 boot_again(&self.boot, &first)
             }
+            Way::Short => refused(3),
+            Way::BrokenSlot | Way::BrokenWord => refused(11),
+            Way::Sorted => booted(&Judgement::of(&self.boot, true)),
+            Way::Again => boot_again(&self.boot, &boot_first(&self.boot)),
             Way::Sort => {
                 boot_first(&self.boot);
                 sorted(&theirs::sort())
