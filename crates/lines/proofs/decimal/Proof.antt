@@ -2,8 +2,8 @@
 use Prim.Native.Nat.{_≤_, _-_}
 use lib.ListN.{length}
 use native.Mathlib.Omega.{arith}
-use Rattle.replay_boots.proofs.lines.decimal.Statement.{statement}
-use Rattle.replay_boots.proofs.lines.decimal.Tie as tie
+use Rattle.lines.proofs.decimal.Statement.{statement}
+use Rattle.lines.proofs.decimal.Tie as tie
 
 abbrev Inv-loop : tie.InvT-loop
 Inv-loop word read₀ i₀ read i = i ≤ length word

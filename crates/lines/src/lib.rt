@@ -1,0 +1,95 @@
+// The words of a line of text, parted by one space: numbers in decimal, below 2^64, read into lent words. For the programs that replay
+// the Rust's answers.
+
+// What a word of the line stands for.
+pub enum Word {
+    Number(u64),
+    Nothing,
+}
+
+// How many numbers were read, and whether each word stood for one and had room.
+pub struct Reading {
+    pub len: usize,
+    pub valid: bool,
+}
+
+pub fn nothing_read() -> Reading {
+    Reading {
+        len: 0,
+        valid: true,
+    }
+}
+
+// Reads the numbers that follow the name, which ends here.
+pub fn read_numbers(line: &[u8], name_end: usize, numbers: &mut [u64]) -> Reading {
+    let mut read = nothing_read();
+    let mut at = name_end;
+    while at < line.len() {
+        // Past the space.
+        let start = at + 1;
+        at = bytes::scan::find(line, start, line.len(), b' ');
+        read = put(read, decimal(&line[start..at]), numbers);
+    }
+    read
+}
+
+// Puts the next number in its place.
+pub fn put(r: Reading, word: Word, numbers: &mut [u64]) -> Reading {
+    match word {
+        Word::Number(n) => put_number(r, n, numbers),
+        Word::Nothing => invalid(r),
+    }
+}
+
+fn put_number(r: Reading, n: u64, numbers: &mut [u64]) -> Reading {
+    let len = r.len;
+    if len < numbers.len() {
+        numbers[len] = n;
+        return Reading {
+            len: len + 1,
+            valid: r.valid,
+        };
+    }
+    invalid(r)
+}
+
+fn invalid(r: Reading) -> Reading {
+    Reading {
+        len: r.len,
+        valid: false,
+    }
+}
+
+pub fn decimal(word: &[u8]) -> Word {
+    if word.len() == 0 {
+        return Word::Nothing;
+    }
+    let mut read = Word::Number(0);
+    let mut i = 0;
+    while i < word.len() {
+        read = with_byte(read, word[i]);
+        i += 1;
+    }
+    read
+}
+
+fn with_byte(read: Word, byte: u8) -> Word {
+    match read {
+        Word::Number(n) => with_digit(n, byte),
+        Word::Nothing => Word::Nothing,
+    }
+}
+
+fn with_digit(n: u64, byte: u8) -> Word {
+    if byte < b'0' {
+        return Word::Nothing;
+    }
+    if b'9' < byte {
+        return Word::Nothing;
+    }
+    let digit = (byte - b'0') as u64;
+    if (u64::MAX - digit) / 10 < n {
+        return Word::Nothing;
+    }
+    Word::Number(n * 10 + digit)
+}
