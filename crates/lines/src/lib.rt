@@ -1,5 +1,8 @@
 // The words of a line of text, parted by one space: numbers in decimal, below 2^64, read into lent words. For the programs that replay
 // the Rust's answers.
+ghost use mathlib.Core.Path.{_≡_};
+ghost use lib.ListN.{drop};
+ghost use Rattle.lines.specs.Words as words;
 
 // What a word of the line stands for.
 pub enum Word {
@@ -13,7 +16,9 @@ pub struct Reading {
     pub valid: bool,
 }
 
-pub fn nothing_read() -> Reading {
+pub fn nothing_read() -> Reading
+    ensures { λ r. ⌜ r ≡ words.nothingRead ⌝ }
+{
     Reading {
         len: 0,
         valid: true,
@@ -21,7 +26,9 @@ pub fn nothing_read() -> Reading {
 }
 
 // Reads the numbers that follow the name, which ends here.
-pub fn read_numbers(line: &[u8], name_end: usize, numbers: &mut [u64]) -> Reading {
+pub fn read_numbers(line: &[u8], name_end: usize, numbers: &mut [u64]) -> Reading
+    ensures { λ r. ⌜ words.filled r (now (numbers .exit)) ≡ words.readAfter (drop «name_end» (now (line .entry))) (now (numbers .entry)) ⌝ }
+{
     let mut read = nothing_read();
     let mut at = name_end;
     while at < line.len() {
@@ -34,14 +41,18 @@ pub fn read_numbers(line: &[u8], name_end: usize, numbers: &mut [u64]) -> Readin
 }
 
 // Puts the next number in its place.
-pub fn put(r: Reading, word: Word, numbers: &mut [u64]) -> Reading {
+pub fn put(r: Reading, word: Word, numbers: &mut [u64]) -> Reading
+    ensures { λ after. ⌜ words.filled after (now (numbers .exit)) ≡ words.putWord word r (now (numbers .entry)) ⌝ }
+{
     match word {
         Word::Number(n) => put_number(r, n, numbers),
         Word::Nothing => invalid(r),
     }
 }
 
-fn put_number(r: Reading, n: u64, numbers: &mut [u64]) -> Reading {
+fn put_number(r: Reading, n: u64, numbers: &mut [u64]) -> Reading
+    ensures { λ after. ⌜ words.filled after (now (numbers .exit)) ≡ words.putNumber n r (now (numbers .entry)) ⌝ }
+{
     let len = r.len;
     if len < numbers.len() {
         numbers[len] = n;
@@ -53,14 +64,18 @@ fn put_number(r: Reading, n: u64, numbers: &mut [u64]) -> Reading {
     invalid(r)
 }
 
-fn invalid(r: Reading) -> Reading {
+fn invalid(r: Reading) -> Reading
+    ensures { λ after. ⌜ after ≡ words.invalid r ⌝ }
+{
     Reading {
         len: r.len,
         valid: false,
     }
 }
 
-pub fn decimal(word: &[u8]) -> Word {
+pub fn decimal(word: &[u8]) -> Word
+    ensures { λ r. ⌜ r ≡ words.decimalOf (now (word .entry)) ⌝ }
+{
     if word.len() == 0 {
         return Word::Nothing;
     }
@@ -73,14 +88,18 @@ pub fn decimal(word: &[u8]) -> Word {
     read
 }
 
-fn with_byte(read: Word, byte: u8) -> Word {
+fn with_byte(read: Word, byte: u8) -> Word
+    ensures { λ r. ⌜ r ≡ words.withByte read byte ⌝ }
+{
     match read {
         Word::Number(n) => with_digit(n, byte),
         Word::Nothing => Word::Nothing,
     }
 }
 
-fn with_digit(n: u64, byte: u8) -> Word {
+fn with_digit(n: u64, byte: u8) -> Word
+    ensures { λ r. ⌜ r ≡ words.withDigit n byte ⌝ }
+{
     if byte < b'0' {
         return Word::Nothing;
     }
