@@ -5,3 +5,4 @@ mod answers;
 pub mod boots;
 pub mod ranges;
 pub mod rules_check;
+pub mod sorts;

@@ -1,10 +1,25 @@
-// Replays the boots of a fixed list. A line of standard input is `boot` or `boot_bytes` and its areas, each as two numbers and a kind;
-// a line of standard output is what our boot of a fresh record answers. The file `stdout` holds what document 01 and the Rust answer;
+// Replays the boots of a fixed list. A line of standard input is `boot` or `boot_bytes` and its areas, each as two numbers and a kind:
+// the boot of a fresh record with a workspace of 4,096 words. A word may stand before it:
+//
+//   booted        boots a record that was booted from frame 0
+//   short         boots with a workspace of 4,095 words
+//   broken_slot   boots a record that breaks a rule: a slot is used and has no frame
+//   broken_word   boots a record that breaks another: it is in sorted form, and an unused word is not 0
+//   sorted        boots an empty record in sorted form
+//   again         boots what the boot has left
+//   sort          sorts what the boot has left
+//   sort_again    sorts that once more
+//   sort_boot     boots what the sort has left
+//
+// A line of standard output is what the last call answers. The file `stdout` holds what document 01 and the Rust answer;
 // oracle/README.md says how it was made.
 mod answers;
-mod lines;
+mod reading;
+mod ways;
 
+use areas::AreaUnit;
 use lines::Reading;
+use reading::Way;
 
 fn main() {
     let mut text = io::large_buffer();
@@ -24,29 +39,40 @@ fn replay(text: &[u8], areas: &mut [u64]) {
 }
 
 fn answer_line(line: &[u8], areas: &mut [u64]) {
-    let name_end = bytes::scan::find(line, 0, line.len(), b' ');
-    let read = lines::read_areas(line, name_end, areas);
-    answer(&line[..name_end], read, areas);
+    let first_end = bytes::scan::find(line, 0, line.len(), b' ');
+    let way = reading::way_of(&line[..first_end]);
+    if reading::is_plain(way) {
+        answer_boot(way, line, areas);
+    } else if first_end < line.len() {
+        answer_boot(way, &line[first_end + 1..], areas);
+    } else {
+        answers::bad();
+    }
 }
 
-// Makes the boot of this name where the rest of the line is a list of areas, and prints its answer.
-fn answer(name: &[u8], read: Reading, areas: &[u64]) {
+// Boots this way where the line is a name and a list of areas, and prints the answer.
+fn answer_boot(way: Way, line: &[u8], areas: &mut [u64]) {
+    let name_end = bytes::scan::find(line, 0, line.len(), b' ');
+    let read = reading::read_areas(line, name_end, areas);
+    answer(way, &line[..name_end], read, areas);
+}
+
+fn answer(way: Way, name: &[u8], read: Reading, areas: &[u64]) {
     let len = read.len;
-    if lines::is_whole(read) {
+    if reading::is_whole(read) {
         if len <= areas.len() {
-            boot_by_name(name, &areas[..len]);
+            boot_by_name(way, name, &areas[..len]);
             return;
         }
     }
     answers::bad();
 }
 
-fn boot_by_name(name: &[u8], areas: &[u64]) {
-    let workspace = [0; 4096];
+fn boot_by_name(way: Way, name: &[u8], areas: &[u64]) {
     if check::same(name, b"boot") {
-        answers::booted(boot::init(lists::fresh(), areas, &workspace));
+        ways::boot(way, areas, AreaUnit::Frames);
     } else if check::same(name, b"boot_bytes") {
-        answers::booted(boot::init_from_bytes(lists::fresh(), areas, &workspace));
+        ways::boot(way, areas, AreaUnit::Bytes);
     } else {
         answers::bad();
     }

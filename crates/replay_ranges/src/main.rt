@@ -1,9 +1,8 @@
-// Replays the range and frame calls of a fixed list. A line of standard input is a call's name and its numbers; a line of
-// standard output is what our call answers. The file `stdout` holds what the Rust answered; oracle/README.md says how it was made.
+// Replays the range and frame calls of a fixed list. A line of standard input is a call's name and its numbers, four at the most; a
+// line of standard output is what our call answers. The file `stdout` holds what the Rust answered; oracle/README.md says how it was made.
 mod answers;
-mod lines;
 
-use lines::Operands;
+use lines::Reading;
 use memory_structs::FrameRange;
 
 fn main() {
@@ -23,18 +22,15 @@ fn replay(text: &[u8]) {
 }
 
 fn answer_line(line: &[u8]) {
-    let space = bytes::scan::find(line, 0, line.len(), b' ');
-    if space < line.len() {
-        answer(&line[..space], lines::read_operands(&line[space + 1..]));
-    } else {
-        answers::bad();
-    }
+    let name_end = bytes::scan::find(line, 0, line.len(), b' ');
+    let mut numbers = [0; 4];
+    let read = lines::read_numbers(line, name_end, &mut numbers);
+    answer(&line[..name_end], read, numbers);
 }
 
 // Makes the call of this name where it takes so many numbers, and prints its answer.
-fn answer(name: &[u8], given: Operands) {
-    let n = given.numbers;
-    let count = lines::count(given);
+fn answer(name: &[u8], read: Reading, n: [u64; 4]) {
+    let count = count(read);
     if count == 2 {
         answer_two(name, n[0], n[1]);
     } else if count == 3 {
@@ -48,6 +44,11 @@ fn answer(name: &[u8], given: Operands) {
     } else {
         answers::bad();
     }
+}
+
+// How many numbers there are; none where the line is no list of numbers.
+fn count(r: Reading) -> usize {
+    if r.valid { r.len } else { 0 }
 }
 
 fn answer_two(name: &[u8], a: u64, b: u64) {

@@ -10,6 +10,7 @@
 //! What a boot puts in the lists is forgotten before the next one.
 
 use super::*;
+use alloc::vec::Vec;
 use core::mem::ManuallyDrop;
 
 /// The parts of a split range: before, middle, after.
@@ -68,6 +69,16 @@ impl FreeFrames {
         ])
     }
 
+    /// The entries of the four lists, each in its tree's order. Nothing where a list is in early form.
+    pub fn window_tables() -> Option<[Vec<FrameRange>; 4]> {
+        Some([
+            table(&FREE_GENERAL_FRAMES_LIST.lock())?,
+            table(&FREE_RESERVED_FRAMES_LIST.lock())?,
+            table(&GENERAL_REGIONS.lock())?,
+            table(&RESERVED_REGIONS.lock())?,
+        ])
+    }
+
     /// Empties the four lists, and leaves them in early form, or in sorted form.
     pub fn window_empty_lists(sorted: bool) {
         empty(&FREE_GENERAL_FRAMES_LIST, sorted);
@@ -86,10 +97,23 @@ fn slots<T: Ord + Deref<Target = FrameRange>>(list: &StaticArrayRBTree<T>) -> Op
     }
 }
 
-/// Dropping a chunk would put it back into its list, so what the list held is forgotten.
+fn table<T: Ord + Deref<Target = FrameRange>>(
+    list: &StaticArrayRBTree<T>,
+) -> Option<Vec<FrameRange>> {
+    match &list.0 {
+        Inner::Array(_) => None,
+        Inner::RBTree(tree) => Some(tree.iter().map(|node| node.deref().deref().clone()).collect()),
+    }
+}
+
+/// Dropping a chunk would put it back into its list, so what the list held is forgotten. The nodes of
+/// a tree are freed.
 fn empty<T: Ord + 'static>(list: &Mutex<StaticArrayRBTree<T>>, sorted: bool) {
     let mut list = list.lock();
-    mem::forget(mem::take(&mut *list));
+    match mem::take(&mut *list).0 {
+        Inner::Array(entries) => mem::forget(entries),
+        Inner::RBTree(tree) => tree.into_iter().for_each(|node| mem::forget(node.into_inner())),
+    }
     if sorted {
         list.convert_to_heap_allocated();
     }

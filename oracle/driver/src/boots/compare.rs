@@ -1,21 +1,25 @@
 //! Compares whole boots on both sides: the number, the answer's other values, and the record, slot
-//! by slot.
+//! by slot. Then sorts what was booted, and compares the record and every word.
 
 use super::area::Boot;
 use super::counts::{Counts, Row, Source};
 use super::generate;
 use super::judge::Judgement;
 use super::ours::{self, EMPTY_TABLES, UNREAD};
-use super::record::{Called, FrameAllocator};
+use super::record::{Called, FrameAllocator, Lists, Sorted};
 use super::small;
 use super::theirs::{self, Result};
 use crate::random::Random;
+use std::fmt::Display;
 
 /// So many differences are printed in full; the others are only counted.
 const SHOWN: u64 = 20;
 
 /// Of so many boots one is booted again.
 const AGAIN: u64 = 7;
+
+/// Of so many boots in the small worlds one is sorted; of the random boots each is.
+const SORT: u64 = 5;
 
 /// Compares the small worlds and `random_boots` random boots. True if nothing differed and all that
 /// can come of a boot did.
@@ -54,7 +58,7 @@ impl Comparison {
     /// same areas in another order, `mixed`, and in other words.
     fn add(&mut self, source: Source, boot: &Boot, mixed: &Boot) {
         let sorted = self.boots % 4 >= 2;
-        let words = if sorted { &EMPTY_TABLES } else { &UNREAD };
+        let words = if sorted { &EMPTY_TABLES[..] } else { &UNREAD[..] };
         self.boots += 1;
 
         let judgement = Judgement::of(boot, sorted);
@@ -63,27 +67,55 @@ impl Comparison {
         let expected = judgement.expected(before);
         self.note(judgement.judge, boot, &expected, &ours::boot(boot, before, words));
         self.note(judgement.judge, mixed, &expected, &ours::boot_in_disguise(mixed, before, words));
-        if judgement.number == 0 && self.boots % AGAIN == 0 {
-            self.boot_again(source, boot, &expected, judgement.rows.contains(&Row::NoFrame));
+        if let Some(lists) = judgement.lists() {
+            if self.boots % AGAIN == 0 {
+                self.boot_again(source, Row::BootedTwice, boot, expected.allocator, &UNREAD);
+            }
+            if source != Source::SmallWorlds || self.boots % SORT == 0 {
+                self.sort(source, boot, lists);
+            }
+        }
+    }
+
+    /// Sorts what was booted. A second sort changes nothing; some are then booted again.
+    fn sort(&mut self, source: Source, boot: &Boot, lists: &Lists) {
+        let tables = theirs::sort();
+        Row::of_sorted(lists, &tables).iter().for_each(|row| self.counts.add_later(source, *row));
+        let expected = Sorted::accepted(&tables, UNREAD.to_vec());
+        let once = ours::sort(FrameAllocator::storing(lists), UNREAD.to_vec());
+        self.note("the Rust, sorted", boot, &expected, &once);
+
+        assert!(theirs::sort() == tables, "the Rust changed what was sorted: {boot}");
+        let twice = ours::sort(once.called.allocator, once.words);
+        self.note("the Rust, sorted twice", boot, &expected, &twice);
+        if self.boots % AGAIN == 1 {
+            self.boot_again(source, Row::BootedSorted, boot, twice.called.allocator, &twice.words);
         }
     }
 
     /// Boots what is booted: unless the first boot left the lists empty, the Rust answers with an
     /// error, which is 10.
-    fn boot_again(&mut self, source: Source, boot: &Boot, first: &Called, empty: bool) {
+    fn boot_again(
+        &mut self,
+        source: Source,
+        row: Row,
+        boot: &Boot,
+        before: FrameAllocator,
+        words: &[u64],
+    ) {
         let expected = match theirs::boot_again(boot) {
-            Result::Lists(_) if empty => *first,
-            Result::Err if !empty => {
-                self.counts.add_second(source);
-                Called::refused(10, first.allocator)
+            Result::Lists(lists) => Called::accepted(&lists),
+            Result::Err => {
+                self.counts.add_later(source, row);
+                Called::refused(10, before)
             }
-            _ => panic!("the Rust booted twice: {boot}"),
+            Result::Panic(_) => panic!("the Rust booted twice: {boot}"),
         };
-        let found = ours::boot(boot, first.allocator, &UNREAD);
+        let found = ours::boot(boot, before, words);
         self.note("the Rust, booted again", boot, &expected, &found);
     }
 
-    fn note(&mut self, judge: &str, boot: &Boot, expected: &Called, found: &Called) {
+    fn note<T: PartialEq + Display>(&mut self, judge: &str, boot: &Boot, expected: &T, found: &T) {
         if found != expected {
             self.differences += 1;
             if self.differences <= SHOWN {

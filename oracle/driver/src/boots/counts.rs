@@ -1,8 +1,8 @@
-//! How often each thing that can come of a boot did.
+//! How often each thing that can come of a boot, and of a sort after it, did.
 
 use super::area::{Area, Boot, Unit};
 use super::domain::is_empty;
-use super::record::{Lists, SLOTS};
+use super::record::{Lists, Tables, SLOTS};
 use crate::call::Range;
 
 /// Where the boots come from.
@@ -40,10 +40,14 @@ pub enum Row {
     DecidedFour,
     DecidedTwo,
     BootedTwice,
+    Sorted,
+    Reordered,
+    FullSorted,
+    BootedSorted,
 }
 
 impl Row {
-    pub const ALL: [Row; 20] = [
+    pub const ALL: [Row; 24] = [
         Row::Accepted,
         Row::NoFrame,
         Row::OnlyGeneral,
@@ -64,6 +68,10 @@ impl Row {
         Row::DecidedFour,
         Row::DecidedTwo,
         Row::BootedTwice,
+        Row::Sorted,
+        Row::Reordered,
+        Row::FullSorted,
+        Row::BootedSorted,
     ];
 
     fn label(self) -> &'static str {
@@ -88,6 +96,10 @@ impl Row {
             Row::DecidedFour => "4 (document 01)",
             Row::DecidedTwo => "2 (document 01)",
             Row::BootedTwice => "10, after an accepted one",
+            Row::Sorted => "sorted, after an accepted one",
+            Row::Reordered => "    the entries of a list change places",
+            Row::FullSorted => "    a list of 32 entries",
+            Row::BootedSorted => "10, after a sort",
         }
     }
 
@@ -103,6 +115,7 @@ impl Row {
                     | Row::TooManyOfBoth
                     | Row::DecidedFive
                     | Row::DecidedTwo
+                    | Row::FullSorted
             )
     }
 
@@ -124,8 +137,24 @@ impl Row {
             (Row::FullPieces, pieces.len() == SLOTS),
             (Row::FullReserved, reserved.len() == SLOTS),
         ];
-        seen.into_iter().filter(|(_, is_so)| *is_so).map(|(row, _)| row).collect()
+        those_seen(&seen)
     }
+
+    /// Of a sort that made these tables of these lists.
+    pub fn of_sorted(lists: &Lists, tables: &Tables) -> Vec<Row> {
+        let reordered =
+            lists.iter().zip(tables).any(|(list, table)| !list.iter().flatten().eq(table));
+        let seen = [
+            (Row::Sorted, true),
+            (Row::Reordered, reordered),
+            (Row::FullSorted, tables.iter().any(|table| table.len() == SLOTS)),
+        ];
+        those_seen(&seen)
+    }
+}
+
+fn those_seen(rows: &[(Row, bool)]) -> Vec<Row> {
+    rows.iter().filter(|(_, is_so)| *is_so).map(|(row, _)| *row).collect()
 }
 
 /// The frames of an area, if it has any.
@@ -153,9 +182,9 @@ impl Counts {
         rows.iter().for_each(|row| self.rows[*row as usize][source as usize] += 1);
     }
 
-    /// A boot of one that is booted, which counts as no other boot.
-    pub fn add_second(&mut self, source: Source) {
-        self.rows[Row::BootedTwice as usize][source as usize] += 1;
+    /// A call after an accepted boot, which counts as no other boot.
+    pub fn add_later(&mut self, source: Source, row: Row) {
+        self.rows[row as usize][source as usize] += 1;
     }
 
     /// What can occur and did not.

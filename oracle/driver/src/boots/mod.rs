@@ -1,12 +1,14 @@
 //! Whole boots on both sides: see ../../../README.md.
 
 mod area;
+mod chosen;
 mod compare;
 mod counts;
 mod departures;
 mod domain;
 mod generate;
 mod judge;
+mod line;
 mod ours;
 mod panics;
 mod record;

@@ -1,4 +1,4 @@
-//! The record, and what a call on it hands back, as C sees them.
+//! The record, the words of its tables, and what a call on them hands back, as C sees them.
 
 use crate::call::Range;
 use std::fmt;
@@ -11,6 +11,12 @@ pub const NAMES: [&str; 4] =
 
 /// The slots of the four lists, in stored order.
 pub type Lists = [[Option<Range>; SLOTS]; 4];
+
+/// The entries of the four lists, each from the lowest start to the highest.
+pub type Tables = [Vec<Range>; 4];
+
+/// So many words are a table's part of the workspace, two to an entry.
+const PART: usize = 1024;
 
 // A `bool` of the library is a byte that is 0 or 1. Read as a number, so that any other value shows.
 #[repr(C)]
@@ -60,6 +66,11 @@ impl FrameAllocator {
         };
         FrameAllocator { sorted: 0, lists: lists.each_ref().map(list), lens: [0; 4] }
     }
+
+    /// The record of these lists in sorted form: of each it has the length.
+    fn counting(tables: &Tables) -> FrameAllocator {
+        FrameAllocator { lens: tables.each_ref().map(Vec::len), ..FrameAllocator::empty(true) }
+    }
 }
 
 impl Called {
@@ -74,6 +85,28 @@ impl Called {
     /// A refusal hands the record back as it was.
     pub fn refused(number: u64, before: FrameAllocator) -> Called {
         Called { answer: Answer::of(number), allocator: before }
+    }
+}
+
+/// What a sort hands back, and the workspace after it.
+#[derive(Clone, PartialEq, Eq)]
+pub struct Sorted {
+    pub called: Called,
+    pub words: Vec<u64>,
+}
+
+impl Sorted {
+    /// Of a workspace that held `words`: each table's entries, then zeros up to the end of its part.
+    /// The words past the four parts are as they were.
+    pub fn accepted(tables: &Tables, mut words: Vec<u64>) -> Sorted {
+        for (part, table) in words.chunks_exact_mut(PART).zip(tables) {
+            part.fill(0);
+            for (pair, range) in part.chunks_exact_mut(2).zip(table) {
+                pair.copy_from_slice(&[range.start, range.end]);
+            }
+        }
+        let allocator = FrameAllocator::counting(tables);
+        Sorted { called: Called { answer: Answer::of(0), allocator }, words }
     }
 }
 
@@ -101,5 +134,15 @@ impl fmt::Display for EarlyList {
             (start, end, 1) => write!(f, " {i}:[{start},{end}]"),
             (start, end, used) => write!(f, " {i}:[{start},{end}] used {used}"),
         })
+    }
+}
+
+/// Every word but 0, after its place, of the first that are so.
+impl fmt::Display for Sorted {
+    fn fmt(&self, f: &mut fmt::Formatter) -> fmt::Result {
+        const SHOWN: usize = 300;
+        write!(f, "{}, words", self.called)?;
+        let words = self.words.iter().enumerate().filter(|(_, word)| **word != 0);
+        words.take(SHOWN).try_for_each(|(i, word)| write!(f, " {i}:{word}"))
     }
 }

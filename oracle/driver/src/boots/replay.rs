@@ -1,20 +1,21 @@
-//! The fixed list of boots, for a program to replay: document 01's bench cases, its refusals and
-//! their order, and some hundreds of the Rust's own answers.
+//! The fixed list of boots, for a program to replay: chosen cases, and some hundreds of the Rust's own
+//! answers.
 
-use super::area::{general, reserved, Area, Boot};
+use super::area::Boot;
+use super::chosen::{chosen, too_many_areas};
 use super::counts::Row;
-use super::generate::{in_bytes, random_boot, MOST_AREAS};
+use super::generate::{in_bytes, random_boot};
 use super::judge::Judgement;
-use super::record::{Lists, NAMES};
+use super::line::{Line, Way};
 use super::{small, theirs};
-use crate::domain::{ADDRESS_LIMIT, BYTE_LIMIT, TOP};
 use crate::random::Random;
 use std::collections::HashSet;
 use std::path::Path;
 use std::{fs, io};
 
-/// So many boots are taken for each row of the table, from each source.
-const EACH: usize = 7;
+/// So many boots are taken for each row of the table from each source, and of those whose kinds change
+/// more than once.
+const EACH: usize = 4;
 
 /// So many random boots are looked through, in either unit.
 const RANDOM_BOOTS: u64 = 20_000;
@@ -23,7 +24,7 @@ const RANDOM_BOOTS: u64 = 20_000;
 const MOST_BYTES: usize = 65_536;
 
 /// Lines that are no boot. `(bad)` answers each.
-const BAD: [&str; 9] = [
+const BAD: [&str; 13] = [
     "",
     "boots",
     "boot ",
@@ -33,13 +34,17 @@ const BAD: [&str; 9] = [
     "boot 0 9 free",
     "boot 0 x general",
     "boot 18446744073709551616 0 general",
+    "sort",
+    "sort ",
+    "sort again boot",
+    "sorts boot",
 ];
 
 /// Writes the files `stdin`, one boot a line, and `stdout`, one answer a line, to `folder`.
 pub fn write_list(folder: &Path, seed: u64) -> io::Result<()> {
-    let boots = list(seed);
-    let mut stdin: String = boots.iter().map(|boot| format!("{boot}\n")).collect();
-    let mut stdout: String = boots.iter().map(|boot| answer(boot) + "\n").collect();
+    let lines = list(seed);
+    let mut stdin: String = lines.iter().map(|line| format!("{line}\n")).collect();
+    let mut stdout: String = lines.iter().map(|line| line.answer() + "\n").collect();
     theirs::empty_lists();
     for line in BAD.iter().map(|line| line.to_string()).chain([too_many_areas().to_string()]) {
         stdin += &format!("{line}\n");
@@ -51,45 +56,39 @@ pub fn write_list(folder: &Path, seed: u64) -> io::Result<()> {
     fs::write(folder.join("stdout"), stdout)
 }
 
-/// The four lists in stored order, each after its name, or the number of the refusal.
-fn answer(boot: &Boot) -> String {
-    let judgement = Judgement::of(boot, false);
-    match judgement.lists() {
-        Some(lists) => shown(lists),
-        None => format!("refused {}", judgement.number),
-    }
-}
-
-pub fn shown(lists: &Lists) -> String {
-    let mut words = Vec::new();
-    for (name, list) in NAMES.iter().zip(lists) {
-        words.push(name.to_string());
-        words.extend(list.iter().flatten().flat_map(|r| [r.start, r.end]).map(|n| n.to_string()));
-    }
-    words.join(" ")
-}
-
-fn list(seed: u64) -> Vec<Boot> {
+fn list(seed: u64) -> Vec<Line> {
     let mut taken = HashSet::new();
-    let mut boots = chosen();
-    boots.retain(|boot| taken.insert(boot.clone()));
+    let mut lines = chosen();
+    lines.retain(|line| taken.insert(line.clone()));
     for source in sources(seed) {
-        for row in Row::ALL {
-            let fits = |(_, rows): &&(Boot, Vec<Row>)| rows.contains(&row);
-            let fitting: Vec<&Boot> = source.iter().filter(fits).map(|(boot, _)| boot).collect();
-            boots.extend(spread(&fitting).into_iter().filter(|boot| taken.insert(boot.clone())));
-        }
+        let mut take = |way: Way, fits: &dyn Fn(&Boot, &[Row]) -> bool| {
+            let fitting = source.iter().filter(|(boot, rows)| fits(boot, rows));
+            let fitting: Vec<Line> = fitting.map(|(boot, _)| way.of(boot)).collect();
+            lines.extend(spread(&fitting).into_iter().filter(|line| taken.insert(line.clone())));
+        };
+        Row::ALL.iter().for_each(|row| take(way(*row), &|_, rows| rows.contains(row)));
+        take(Way::Plain, &|boot, _| kinds_change_often(boot));
     }
-    boots
+    lines
+}
+
+fn kinds_change_often(boot: &Boot) -> bool {
+    boot.areas.windows(2).filter(|areas| areas[0].reserved != areas[1].reserved).count() > 1
+}
+
+/// How a boot is replayed that is taken for this row.
+fn way(row: Row) -> Way {
+    match row {
+        Row::BootedTwice => Way::Again,
+        Row::Sorted | Row::Reordered | Row::FullSorted => Way::Sort,
+        Row::BootedSorted => Way::SortBoot,
+        _ => Way::Plain,
+    }
 }
 
 /// Every boot of a source with the rows that it counts in; of the small worlds every 97th.
 fn sources(seed: u64) -> [Vec<(Boot, Vec<Row>)>; 3] {
     let mut random = Random::new(seed);
-    let counted = |boot: Boot| {
-        let rows = Judgement::of(&boot, false).rows;
-        (boot, rows)
-    };
     let mut small = Vec::new();
     let mut i = 0;
     small::each(|boot, mixed| {
@@ -105,113 +104,22 @@ fn sources(seed: u64) -> [Vec<(Boot, Vec<Row>)>; 3] {
     [small, frames, bytes]
 }
 
+/// An accepted boot counts in the rows of what can be done after it as well.
+fn counted(boot: Boot) -> (Boot, Vec<Row>) {
+    let judgement = Judgement::of(&boot, false);
+    let mut rows = judgement.rows.clone();
+    if let Some(lists) = judgement.lists() {
+        rows.extend(Row::of_sorted(lists, &theirs::sort()));
+        rows.extend([Row::BootedTwice, Row::BootedSorted]);
+    }
+    (boot, rows)
+}
+
 /// `EACH` of them, the shortest of as many stretches.
-fn spread(all: &[&Boot]) -> Vec<Boot> {
+fn spread(all: &[Line]) -> Vec<Line> {
     let stretch = all.len().div_ceil(EACH).max(1);
     all.chunks(stretch)
-        .filter_map(|boots| boots.iter().min_by_key(|boot| boot.to_string().len()))
-        .map(|boot| (*boot).clone())
+        .filter_map(|lines| lines.iter().min_by_key(|line| line.to_string().len()))
+        .cloned()
         .collect()
-}
-
-/// The bench cases and the cases of document 01's tables and sentences.
-fn chosen() -> Vec<Boot> {
-    [bench_cases(), refusals(), order(), empty_general(), bytes()].concat()
-}
-
-/// P1 to P5.
-fn bench_cases() -> Vec<Boot> {
-    vec![
-        Boot::of_frames(&[general(0, 30), reserved(5, 9), reserved(15, 19)]),
-        Boot::of_frames(&[general(0, 30), reserved(25, 40), reserved(5, 9)]),
-        Boot::of_frames(&[general(5, 9), reserved(0, 20)]),
-        Boot::of_frames(&[reserved(0, 5), reserved(10, 15), reserved(4, 11)]),
-        Boot::of_frames(&[reserved(0, 4), reserved(5, 9)]),
-    ]
-}
-
-/// So many areas of one frame, from frame 1 on, with a frame between two.
-fn apart(area: impl Fn(u64, u64) -> Area, count: u64) -> Vec<Area> {
-    (0..count).map(|i| area(2 * i + 1, 2 * i + 1)).collect()
-}
-
-/// 5, 4, 2, 7 and 6, and beside 5 and 7 what is just not too many.
-fn refusals() -> Vec<Boot> {
-    let all = |areas: &[Area], more: &[Area]| Boot::of_frames(&[areas, more].concat());
-    vec![
-        all(&[reserved(0, 0); 33], &[]),
-        all(&apart(reserved, 33), &[]),
-        all(&apart(reserved, 32), &[general(100, 100)]),
-        all(&[reserved(1, 0)], &[]),
-        all(&[general(0, 9), reserved(3, 2)], &[]),
-        all(&[general(1, 1), reserved(1, 0)], &[]),
-        all(&[general(0, TOP + 1)], &[]),
-        all(&[reserved(TOP, TOP + 1)], &[]),
-        all(&[general(u64::MAX, u64::MAX)], &[]),
-        all(&[general(TOP, TOP)], &[]),
-        all(&apart(general, 33), &[]),
-        all(&apart(reserved, 32), &[general(0, 64)]),
-        all(&apart(reserved, 32), &[general(0, 63)]),
-        all(&apart(general, 32), &[]),
-        all(&[general(0, 0); 2], &[]),
-        all(&[general(0, 1), reserved(1, 1), reserved(0, 0)], &[]),
-    ]
-}
-
-/// "boot then 10, 5, 4, 2, 7, 6": each before the next, and 5 before 7, where the Rust has it the
-/// other way round.
-fn order() -> Vec<Boot> {
-    let all = |areas: &[Area], more: &[Area]| Boot::of_frames(&[areas, more].concat());
-    let twice = [general(0, 0); 2];
-    vec![
-        all(&[reserved(1, 0); 33], &[]),
-        all(&[reserved(1, 0)], &[general(TOP + 1, TOP + 1)]),
-        all(&apart(general, 33), &[general(TOP + 1, TOP + 1)]),
-        all(&apart(general, 33), &twice),
-        all(&apart(reserved, 33), &[general(0, 80)]),
-        all(&[reserved(1, 0)], &twice),
-        all(&[general(TOP + 1, TOP + 1)], &twice),
-    ]
-}
-
-/// "An empty general area gives nothing, but its ends must pass 2."
-fn empty_general() -> Vec<Boot> {
-    vec![
-        Boot::of_frames(&[]),
-        Boot::of_frames(&[general(1, 0)]),
-        Boot::of_frames(&[general(5, 2), general(7, 9), reserved(3, 3)]),
-        Boot::of_frames(&[general(TOP, 0)]),
-        Boot::of_frames(&[general(TOP + 1, 0)]),
-    ]
-}
-
-/// "A second entry takes areas as start address, byte size and kind, and turns each into the frames
-/// it touches."
-fn bytes() -> Vec<Boot> {
-    vec![
-        Boot::of_bytes(&[general(4095, 2), reserved(8192, 1)]),
-        Boot::of_bytes(&[general(4096, 4096)]),
-        Boot::of_bytes(&[general(4096, 4097)]),
-        Boot::of_bytes(&[
-            general(0, 31 * 4096),
-            reserved(5 * 4096, 5 * 4096),
-            reserved(62_000, 20_000),
-        ]),
-        Boot::of_bytes(&[general(0, 4096), general(4095, 2)]),
-        Boot::of_bytes(&[reserved(0, 0)]),
-        Boot::of_bytes(&[reserved(ADDRESS_LIMIT, 0)]),
-        Boot::of_bytes(&[reserved(u64::MAX, 0)]),
-        Boot::of_bytes(&[general(0, 0)]),
-        Boot::of_bytes(&[general(ADDRESS_LIMIT - 1, 0)]),
-        Boot::of_bytes(&[general(ADDRESS_LIMIT, 0)]),
-        Boot::of_bytes(&[general(0, BYTE_LIMIT)]),
-        Boot::of_bytes(&[general(0, BYTE_LIMIT + 1)]),
-        Boot::of_bytes(&[general(ADDRESS_LIMIT - 1, 1)]),
-        Boot::of_bytes(&[general(ADDRESS_LIMIT - 1, 2)]),
-        Boot::of_bytes(&[reserved(u64::MAX, u64::MAX)]),
-    ]
-}
-
-fn too_many_areas() -> Boot {
-    Boot::of_frames(&apart(general, MOST_AREAS as u64 + 1))
 }

@@ -1,14 +1,16 @@
-//! Their side: `init` of the Theseus sources.
+//! Their side: `init` and `convert_frame_allocator_to_heap_based` of the Theseus sources.
 //!
 //! Its lists are statics, so they are emptied before each boot. Its refusals are panics. Those of a
 //! boot come before it locks a list or makes a `Frames`, so catching one leaves nothing behind.
 
 use super::area::{Area, Boot, Unit};
 use super::panics;
-use super::record::Lists;
+use super::record::{Lists, Tables};
 use crate::call::Range;
 use crate::theirs::{address, ends, frame};
-use frame_allocator::{init, FreeFrames, MemoryRegionType, PhysicalMemoryRegion};
+use frame_allocator::{
+    convert_frame_allocator_to_heap_based, init, FreeFrames, MemoryRegionType, PhysicalMemoryRegion,
+};
 use memory_structs::FrameRange;
 
 /// What the Rust did with a boot.
@@ -59,6 +61,13 @@ pub fn boot_again(boot: &Boot) -> Result {
     }
 }
 
+/// Sorts the lists as they are.
+pub fn sort() -> Tables {
+    convert_frame_allocator_to_heap_based();
+    let tables = FreeFrames::window_tables().expect("a sort leaves its lists in sorted form");
+    tables.map(|table| table.iter().map(range).collect())
+}
+
 /// Leaves the lists as a fresh process has them.
 pub fn empty_lists() {
     FreeFrames::window_empty_lists(false);
@@ -75,9 +84,10 @@ fn region(area: &Area, unit: Unit) -> PhysicalMemoryRegion {
 
 fn lists() -> Lists {
     let slots = FreeFrames::window_slots().expect("a boot leaves its lists in early form");
-    let range = |range: FrameRange| {
-        let [start, end] = ends(&range);
-        Range { start, end }
-    };
-    slots.map(|list| list.map(|slot| slot.map(range)))
+    slots.map(|list| list.map(|slot| slot.as_ref().map(range)))
+}
+
+fn range(range: &FrameRange) -> Range {
+    let [start, end] = ends(range);
+    Range { start, end }
 }

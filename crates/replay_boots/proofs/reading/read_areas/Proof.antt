@@ -1,16 +1,19 @@
 -- `read_areas` takes each word of the line once, and keeps the length of the lent words.
-use Prim.Native.Nat.{_≤_, _-_}
+use Prim.Native.Nat.{_-_}
 use mathlib.Core.Path.{_≡_}
 use lib.ListN.{length}
 use native.Mathlib.Omega.{arith}
-use Rattle.replay_boots.proofs.lines.read_areas.Statement.{statement}
-use Rattle.replay_boots.proofs.lines.read_areas.Tie as tie
+use Rattle.replay_boots.proofs.reading.read_areas.Statement.{statement}
+use Rattle.replay_boots.proofs.reading.read_areas.Tie as tie
 
 abbrev Inv-loop : tie.InvT-loop
 Inv-loop line name-end areas₀ read₀ at₀ areas read at = length areas ≡ length areas₀
 
 abbrev μ-loop : tie.MeasureT-loop
 μ-loop line name-end areas₀ read₀ at₀ areas read at = length line - at
+
+nothing-read-requires : tie.Need-nothing-read-requires Inv-loop μ-loop
+nothing-read-requires c κs = tt
 
 loop-holds : tie.Need-loop-holds Inv-loop μ-loop
 loop-holds c = omega arith
@@ -54,6 +57,7 @@ read-areas-spec =
     (tie.spec
     Inv-loop
     μ-loop
+    nothing-read-requires
     loop-holds
     add-start
     find-requires
