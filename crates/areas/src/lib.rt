@@ -4,7 +4,7 @@ ghost use mathlib.Core.Path.{_≡_};
 ghost use mathlib.Core.List.{[], _∷_};
 ghost use Prim.Native.Nat.{_+_, _≤_};
 ghost use lib.ListN.{length, getD};
-ghost use Rattle.carving.specs.Ranges.{listed, listOf, rangesIn, Carvable, Appended};
+ghost use Rattle.carving.specs.Ranges.{listed, rangeListOf, rangesIn, Carvable, Appended};
 ghost use Rattle.areas.specs.Areas as spec;
 ghost use Rattle.areas.specs.Areas.{Collects, Adds};
 use carving::RangeList;
@@ -107,8 +107,8 @@ pub fn carve_area<'a>(
     pieces: RangeList,
 ) -> RangeList
     requires { ⌜ (length (now starts) ≡ 32) × (length (now ends) ≡ 32) ⌝ }
-    requires { ⌜ Carvable (listOf (now starts) (now ends) len) ⌝ }
-    ensures { λ r. ⌜ Appended pieces (spec.piecesIn (rangesIn (listOf (now (starts .entry)) (now (ends .entry)) len)) (area ∷ [])) r ⌝ }
+    requires { ⌜ Carvable (rangeListOf (now starts) (now ends) len) ⌝ }
+    ensures { λ r. ⌜ Appended pieces (spec.piecesIn (rangesIn (rangeListOf (now (starts .entry)) (now (ends .entry)) len)) (area ∷ [])) r ⌝ }
 {
     let kind = area.kind;
     match kind {

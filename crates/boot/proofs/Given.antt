@@ -1,30 +1,25 @@
 -- What a boot gives: 3, 11 and 10 first, then as the areas have it.
-use Prim.Native.Nat.{ℕ, _+_, _≤_}
+use Prim.Native.Nat.{ℕ, zero, suc, _+_}
 use native.Mathlib.Omega.{arith}
 use mathlib.Core.Path.{_≡_, refl, sym, ap, subst, _∙_}
 use mathlib.Core.Bool.{Bool, true, false, not}
 use mathlib.Core.List.{List}
 use lib.Dec.{eqb}
 use lib.ListN.{length}
-use borrow.Author.Tests.{eq-eqb, ne-eqb, eqb-true, eqb-false, not-true, not-false}
+use borrow.Author.Tests.{ne-eqb, eqb-true, eqb-false}
 use Rattle.memory_structs.specs.Choice.{if_then_else_}
-use Rattle.memory_structs.proofs.Bools.{both-first}
-use Rattle.model.specs.Lists.{Lists, Slot, entries}
+use Rattle.model.specs.Lists.{Lists, entries}
 use Rattle.model.specs.Boot as model
 use Rattle.model.specs.Boot.{booted}
 use Rattle.model.specs.Requests.{Result, refused, counted, withoutFrames}
-use Rattle.model.specs.Rules.{rules}
-use Rattle.model.specs.Store.{part, load, recordOf, storeRules}
-use Rattle.model.specs.Calls.{Call, Gives, answer, boot, noEntries, shortBuffer, keepsRules}
+use Rattle.model.specs.Store.{load, recordOf}
+use Rattle.model.specs.Calls.{Call, Gives, answer, boot, noEntries, shortBuffer}
 use Rattle.model.specs.declared.Called.{Called}
 use Rattle.model.specs.declared.FrameAllocator.{FrameAllocator}
 use Rattle.model.proofs.Whole.{early-words}
-use Rattle.lists.specs.declared.OneList.{OneList}
 use Rattle.lists.specs.declared.record.WhichList.{WhichList}
 use Rattle.lists.specs.declared.record.WhichList.the-variants.{GeneralFree, ReservedFree, GeneralRegions, ReservedRegions}
-use Rattle.lists.specs.One.{IsList, slotsIn}
-use Rattle.lists.specs.Record.{listOf, partOf, slotsAt}
-use Rattle.lists.proofs.Whole.{loaded, is-list}
+use Rattle.lists.specs.Record.{slotsAt}
 use Rattle.rules.specs.Check.{checked, refusedWith, acceptedWith}
 use Rattle.rules.proofs.Numbers.{gives-refused, gives-stored, gives-unchanged}
 use Rattle.areas.specs.declared.AreaUnit.{AreaUnit}
@@ -32,49 +27,16 @@ use Rattle.areas.specs.declared.AreaUnit.the-variants.{Frames, Bytes}
 use Rattle.areas.specs.declared.BootArea.{BootArea}
 use Rattle.areas.specs.Areas.{read, extents, anyOutside}
 use Rattle.areas.proofs.Read.{frames-read, bytes-read}
-use Rattle.boot.specs.Boots.{callOf, mayBoot, hasEntry, bootedFrom}
+use Rattle.boot.specs.Boots.{callOf, mayBoot, bootedFrom}
 
--- no entries: none of the four lists has one
-module _ (l : Lists) where
-  none-in : (w : WhichList) → false ≡ hasEntry w l → length (entries (slotsAt w l)) ≡ 0
-  unfolding hasEntry
-  none-in w e = eqb-true _ _ (not-false _ (sym e))
-
-  some-in : (w : WhichList) → true ≡ hasEntry w l → length (entries (slotsAt w l)) ≡ 0 → ⊥
-  unfolding hasEntry
-  some-in w e = eqb-false _ _ (not-true _ (sym e))
-
-  abbrev entriesIn : ℕ
-  entriesIn = length (entries (l .generalFree)) + length (entries (l .reservedFree)) + length (entries (l .generalRegions)) + length (entries (l .reservedRegions))
-
-  pub some-entries : (w : WhichList) → true ≡ hasEntry w l → true ≡ not (noEntries l)
-  unfolding noEntries slotsAt
-  some-entries w e = sym (ap not (ne-eqb 0 entriesIn (go w (some-in w e))))
-    where
-      go : (w : WhichList) → (length (entries (slotsAt w l)) ≡ 0 → ⊥) → 0 ≡ entriesIn → ⊥
-      go GeneralFree n z = n (omega arith)
-      go ReservedFree n z = n (omega arith)
-      go GeneralRegions n z = n (omega arith)
-      go ReservedRegions n z = n (omega arith)
-
-  pub last-entries : false ≡ hasEntry GeneralFree l → false ≡ hasEntry ReservedFree l → false ≡ hasEntry GeneralRegions l → hasEntry ReservedRegions l ≡ not (noEntries l)
-  unfolding noEntries slotsAt
-  last-entries a b c = go (hasEntry ReservedRegions l) refl
-    where
-      go : (t : Bool) → hasEntry ReservedRegions l ≡ t → hasEntry ReservedRegions l ≡ not (noEntries l)
-      go true e = e ∙ some-entries ReservedRegions (sym e)
-      go false e = e ∙ sym (ap not (eq-eqb 0 entriesIn (omega (arith, none-in GeneralFree a, none-in ReservedFree b, none-in GeneralRegions c, none-in ReservedRegions (sym e)))))
-
--- what the rules say of each list
-pub list-stands : (w : WhichList) (a : FrameAllocator) (ws : List ℕ) → 4096 ≤ length ws → keepsRules a ws ≡ true → IsList (listOf w a) (part (partOf w) ws)
-unfolding keepsRules
-list-stands w a ws h e = is-list a ws h (both-first (storeRules a ws) (rules (load a ws)) e) w
-
-pub entry-counted : (w : WhichList) (a : FrameAllocator) (ws : List ℕ) (l : OneList) (n : ℕ) → l ≡ listOf w a → n ≡ length (entries (slotsIn l (part (partOf w) ws))) → not (eqb n 0) ≡ hasEntry w (load a ws)
-unfolding hasEntry
-entry-counted w a ws l n e h =
-    ap (λ (k : ℕ). not (eqb k 0))
-    (h ∙ ap (λ (x : OneList). length (entries (slotsIn x (part (partOf w) ws)))) e ∙ ap (λ (s : List Slot). length (entries s)) (loaded w a ws))
+-- no entries: the four counts come to 0
+pub entries-counted : (l : Lists) {m n o p : ℕ} → m ≡ length (entries (slotsAt GeneralFree l)) → n ≡ length (entries (slotsAt ReservedFree l)) → o ≡ length (entries (slotsAt GeneralRegions l)) → p ≡ length (entries (slotsAt ReservedRegions l)) → not (eqb (m + n + o + p) 0) ≡ not (noEntries l)
+unfolding noEntries slotsAt
+entries-counted l {m} {n} {o} {p} e f g h = rw (sym e, sym f, sym g, sym h) (ap not (swapped (m + n + o + p)))
+  where
+    swapped : (k : ℕ) → eqb k 0 ≡ eqb 0 k
+    swapped zero = refl
+    swapped (suc k) = ne-eqb (suc k) 0 (λ e. omega (arith, e)) ∙ sym (ne-eqb 0 (suc k) (λ e. omega (arith, e)))
 
 -- 3, 11 and 10
 module _ (a : FrameAllocator) (ws : List ℕ) where

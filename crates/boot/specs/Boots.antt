@@ -1,19 +1,15 @@
 -- Boot in the shape of its code. The words in quotes are document 01's.
 use Prim.Native.Nat.{ℕ}
-use mathlib.Core.Bool.{Bool, not}
 use mathlib.Core.List.{List, _++_}
-use lib.ListN.{length}
 use lib.Dec.{ltb, eqb}
 use Rattle.memory_structs.specs.Choice.{if_then_else_}
 use Rattle.memory_structs.specs.declared.range.FrameRange.{FrameRange}
-use Rattle.model.specs.Lists.{Lists, entries, disjoint}
+use Rattle.model.specs.Lists.{disjoint}
 use Rattle.model.specs.Boot as model
 use Rattle.model.specs.Calls.{Call, bootCall, bootBytesCall, noEntries}
 use Rattle.model.specs.Store.{load, recordOf}
 use Rattle.model.specs.declared.Called.{Called}
 use Rattle.model.specs.declared.FrameAllocator.{FrameAllocator}
-use Rattle.lists.specs.declared.record.WhichList.{WhichList}
-use Rattle.lists.specs.Record.{slotsAt}
 use Rattle.rules.specs.Check.{checked, refusedWith, acceptedWith}
 use Rattle.carving.specs.declared.RangeList.{RangeList}
 use Rattle.carving.specs.Ranges.{rangesIn}
@@ -32,10 +28,6 @@ callOf Bytes ws = bootBytesCall (byteAreasIn ws)
 -- "Order: 3, 11; boot then 10"
 unfoldable pub mayBoot : FrameAllocator → List ℕ → ℕ
 mayBoot a ws = if eqb (checked a ws) 0 then (if noEntries (load a ws) then 0 else 10) else checked a ws
-
--- one list is not empty
-unfoldable pub hasEntry : WhichList → Lists → Bool
-hasEntry w l = not (eqb (length (entries (slotsAt w l))) 0)
 
 -- "5, 4, 2"
 unfoldable pub refusalOf : Collected → ℕ

@@ -1,10 +1,9 @@
 // From a boot map to the four lists: document 01, "Boot" (000, `init`).
 ghost use mathlib.Core.Path.{_≡_};
-ghost use mathlib.Core.Bool.{true, not};
-ghost use Prim.Native.Nat.{_≤_};
-ghost use lib.ListN.{length};
-ghost use Rattle.model.specs.Calls.{bootCall, bootBytesCall, Gives, keepsRules, noEntries};
+ghost use mathlib.Core.Bool.{not};
+ghost use Rattle.model.specs.Calls.{bootCall, bootBytesCall, Gives, noEntries};
 ghost use Rattle.model.specs.Store.{load};
+ghost use Rattle.rules.specs.Check.{Ruled};
 ghost use Rattle.carving.specs.Ranges.{rangesIn, Whole, Counted};
 ghost use Rattle.areas.specs.Areas.{read, areasIn, byteAreasIn};
 ghost use Rattle.boot.specs.Boots as spec;
@@ -51,29 +50,14 @@ pub fn may_boot(a: FrameAllocator, words: &[u64]) -> u64
 }
 
 fn has_entries(a: FrameAllocator, words: &[u64]) -> bool
-    requires { ⌜ 4096 ≤ length (now words) ⌝ }
-    requires { ⌜ keepsRules a (now words) ≡ true ⌝ }
+    requires { ⌜ Ruled a (now words) ⌝ }
     ensures { λ r. ⌜ r ≡ not (noEntries (load a (now (words .entry)))) ⌝ }
 {
-    if has_entry(a, words, WhichList::GeneralFree) {
-        return true;
-    }
-    if has_entry(a, words, WhichList::ReservedFree) {
-        return true;
-    }
-    if has_entry(a, words, WhichList::GeneralRegions) {
-        return true;
-    }
-    has_entry(a, words, WhichList::ReservedRegions)
-}
-
-fn has_entry(a: FrameAllocator, words: &[u64], which: WhichList) -> bool
-    requires { ⌜ 4096 ≤ length (now words) ⌝ }
-    requires { ⌜ keepsRules a (now words) ≡ true ⌝ }
-    ensures { λ r. ⌜ r ≡ spec.hasEntry which (load a (now (words .entry))) ⌝ }
-{
-    let from = lists::part_of(which);
-    lists::count(lists::list_of(a, which), &words[from..from + 1024]) != 0
+    let general_chunks = parts::count(a, words, WhichList::GeneralFree);
+    let reserved_chunks = parts::count(a, words, WhichList::ReservedFree);
+    let general_regions = parts::count(a, words, WhichList::GeneralRegions);
+    let reserved_regions = parts::count(a, words, WhichList::ReservedRegions);
+    general_chunks + reserved_chunks + general_regions + reserved_regions != 0
 }
 
 // Boots a record whose lists are empty.

@@ -32,8 +32,8 @@ unfoldable pub rangesIn : RangeList → List FrameRange
 rangesIn l = pairs (l .len) (l .starts) (l .ends)
 
 -- the list with these arrays, where they are lent
-abbrev pub listOf : List ℕ → List ℕ → ℕ → RangeList
-listOf ss es n = record { starts = ss; ends = es; len = n }
+abbrev pub rangeListOf : List ℕ → List ℕ → ℕ → RangeList
+rangeListOf ss es n = record { starts = ss; ends = es; len = n }
 
 -- a list that has stored all of its ranges
 pub record Whole (l : RangeList) : Type 0 where

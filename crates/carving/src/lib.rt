@@ -5,7 +5,7 @@ ghost use Prim.Native.Nat.{_≤_};
 ghost use lib.ListN.{length};
 ghost use Rattle.memory_structs.specs.Range as range;
 ghost use Rattle.model.specs.Carving as model;
-ghost use Rattle.carving.specs.Ranges.{listed, listOf, rangesIn, Carvable, Appended};
+ghost use Rattle.carving.specs.Ranges.{listed, rangeListOf, rangesIn, Carvable, Appended};
 
 // Ranges in the order in which they came, the first 32 of them. `len` is 33 where there are more.
 pub struct RangeList {
@@ -72,8 +72,8 @@ pub fn check_and_add_free_region<'a>(
     mut pieces: RangeList,
 ) -> RangeList
     requires { ⌜ (length (now starts) ≡ 32) × (length (now ends) ≡ 32) ⌝ }
-    requires { ⌜ Carvable (listOf (now starts) (now ends) len) ⌝ }
-    ensures { λ r. ⌜ Appended pieces (model.pieces (rangesIn (listOf (now (starts .entry)) (now (ends .entry)) len)) (range.range start end)) r ⌝ }
+    requires { ⌜ Carvable (rangeListOf (now starts) (now ends) len) ⌝ }
+    ensures { λ r. ⌜ Appended pieces (model.pieces (rangesIn (rangeListOf (now (starts .entry)) (now (ends .entry)) len)) (range.range start end)) r ⌝ }
 {
     let mut current_start = start;
     let mut current_end = end;

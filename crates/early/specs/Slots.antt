@@ -19,8 +19,8 @@ pub record IsEarly (l : EarlyList) : Type 0 where
   pub plain : earlyOf (slotsOf l) ≡ l
 
 -- the list with these arrays: a search that is made for each of many ranges is lent them, and copies no list
-abbrev pub listOf : List ℕ → List ℕ → List Bool → EarlyList
-listOf starts ends flags = record { starts = starts; ends = ends; used = flags }
+abbrev pub earlyListOf : List ℕ → List ℕ → List Bool → EarlyList
+earlyListOf starts ends flags = record { starts = starts; ends = ends; used = flags }
 
 -- where the first slot that is not used stands
 unfoldable pub firstUnused : List Slot → Place

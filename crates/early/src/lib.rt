@@ -10,7 +10,7 @@ ghost use Rattle.model.specs.Lists.{used, entries, anyOf, firstWhere, insertEar
 ghost use Rattle.model.specs.Rules.{tidy};
 ghost use Rattle.tables.specs.Words.{placeOf};
 ghost use Rattle.model.specs.Store.{slotsOf, earlyOf};
-ghost use Rattle.early.specs.Slots.{IsEarly, listOf, firstUnused, framesIn, wants};
+ghost use Rattle.early.specs.Slots.{IsEarly, earlyListOf, firstUnused, framesIn, wants};
 use memory_structs::FrameRange;
 use memory_structs::highest;
 use memory_structs::lowest;
@@ -137,8 +137,8 @@ pub fn meets_from<'a>(
     start: u64,
     end: u64,
 ) -> bool
-    requires { ⌜ length (slotsOf (listOf (now starts) (now ends) (now used))) ≡ 32 ⌝ }
-    ensures { λ r. ⌜ r ≡ anyOf (meets (range start end)) (entries (drop from (slotsOf (listOf (now (starts .entry)) (now (ends .entry)) (now (used .entry)))))) ⌝ }
+    requires { ⌜ length (slotsOf (earlyListOf (now starts) (now ends) (now used))) ≡ 32 ⌝ }
+    ensures { λ r. ⌜ r ≡ anyOf (meets (range start end)) (entries (drop from (slotsOf (earlyListOf (now (starts .entry)) (now (ends .entry)) (now (used .entry)))))) ⌝ }
 {
     let mut i = from;
     while i < 32 {
@@ -158,8 +158,8 @@ pub fn frames_in<'a>(
     start: u64,
     end: u64,
 ) -> u64
-    requires { ⌜ tidy false (slotsOf (listOf (now starts) (now ends) (now used))) ≡ true ⌝ }
-    ensures { λ r. ⌜ r ≡ framesIn (range start end) (entries (slotsOf (listOf (now (starts .entry)) (now (ends .entry)) (now (used .entry))))) ⌝ }
+    requires { ⌜ tidy false (slotsOf (earlyListOf (now starts) (now ends) (now used))) ≡ true ⌝ }
+    ensures { λ r. ⌜ r ≡ framesIn (range start end) (entries (slotsOf (earlyListOf (now (starts .entry)) (now (ends .entry)) (now (used .entry))))) ⌝ }
 {
     let mut total = 0;
     let mut i = 0;
@@ -183,9 +183,9 @@ pub fn covers<'a>(
     start: u64,
     end: u64,
 ) -> bool
-    requires { ⌜ tidy false (slotsOf (listOf (now starts) (now ends) (now used))) ≡ true ⌝ }
+    requires { ⌜ tidy false (slotsOf (earlyListOf (now starts) (now ends) (now used))) ≡ true ⌝ }
     requires { ⌜ start ≤ end ⌝ }
-    ensures { λ r. ⌜ r ≡ inUnion (entries (slotsOf (listOf (now (starts .entry)) (now (ends .entry)) (now (used .entry))))) (range start end) ⌝ }
+    ensures { λ r. ⌜ r ≡ inUnion (entries (slotsOf (earlyListOf (now (starts .entry)) (now (ends .entry)) (now (used .entry))))) (range start end) ⌝ }
 {
     // No frame is in two slots: where they have as many frames of the range as there are, they have each.
     end - start < frames_in(starts, ends, used, start, end)

@@ -8,7 +8,7 @@ ghost use Rattle.memory_structs.specs.Range.{meets};
 ghost use Rattle.model.specs.Lists.{entries, anyOf, allOf, inUnion};
 ghost use Rattle.model.specs.Rules.{tidy};
 ghost use Rattle.model.specs.Store.{slotsOf, emptied, noneUsed};
-ghost use Rattle.early.specs.Slots.{listOf};
+ghost use Rattle.early.specs.Slots.{earlyListOf};
 ghost use Rattle.early_rules.specs.Slot.{tidySlot};
 use memory_structs::FrameRange;
 use model::EarlyList;
@@ -48,9 +48,9 @@ fn is_tidy_slot<'a>(
     used: &'a [bool; 32],
     i: usize,
 ) -> bool
-    requires { ⌜ length (slotsOf (listOf (now starts) (now ends) (now used))) ≡ 32 ⌝ }
+    requires { ⌜ length (slotsOf (earlyListOf (now starts) (now ends) (now used))) ≡ 32 ⌝ }
     requires { ⌜ i < 32 ⌝ }
-    ensures { λ r. ⌜ r ≡ tidySlot (getD (now (starts .entry)) i 0) (getD (now (ends .entry)) i 0) (getD (now (used .entry)) i false) (entries (drop (i + 1) (slotsOf (listOf (now (starts .entry)) (now (ends .entry)) (now (used .entry)))))) ⌝ }
+    ensures { λ r. ⌜ r ≡ tidySlot (getD (now (starts .entry)) i 0) (getD (now (ends .entry)) i 0) (getD (now (used .entry)) i false) (entries (drop (i + 1) (slotsOf (earlyListOf (now (starts .entry)) (now (ends .entry)) (now (used .entry)))))) ⌝ }
 {
     let start = starts[i];
     let end = ends[i];

@@ -1,6 +1,7 @@
 // The calls for C and Rust programs, under C names. `rt staticlib exports` writes the archive that they link.
 // Each range or frame call returns document 01's number and writes the rest of its answer to `out`, whole, refused calls included; a
 // call of the allocator returns its answer and the record after it.
+pub mod allocations;
 mod answers;
 pub mod boots;
 pub mod ranges;

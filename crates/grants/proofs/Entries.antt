@@ -51,7 +51,7 @@ one-emptied zero (used r ∷ s) h = omega arith
 one-emptied (suc i) (unused ∷ s) h = one-emptied i s h
 one-emptied (suc i) (used r ∷ s) h = omega (arith, one-emptied i s h)
 
-all-used : {s : List Slot} → Storable true s → length s ≡ length (entries s)
+pub all-used : {s : List Slot} → Storable true s → length s ≡ length (entries s)
 all-used (sorted u h) = used-count u
 
 module _ (c : Chosen) (start end : ℕ) where

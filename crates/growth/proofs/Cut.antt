@@ -7,7 +7,7 @@ use mathlib.Core.List.{List}
 use lib.ListN.{length}
 use Rattle.memory_structs.specs.Range.{range}
 use Rattle.memory_structs.specs.declared.range.FrameRange.{FrameRange}
-use Rattle.model.specs.Lists.{Lists, Slot, entries, insert, bound}
+use Rattle.model.specs.Lists.{Lists, Slot, entries, rangeAt, insert, bound}
 use Rattle.model.specs.Requests.{missing, find, grow}
 use Rattle.model.specs.Rules.{tidy}
 use Rattle.model.specs.Store.{load, wordsOf}
@@ -24,12 +24,12 @@ use Rattle.rules.specs.Check.{Ruled, Does}
 use Rattle.rules.proofs.Going.{ruled-stands, stored-stands, stands-ruled}
 use Rattle.grants.specs.declared.Chosen.{Chosen}
 use Rattle.grants.specs.Grants.{Chooses, grantOf, entriesLeft}
+use Rattle.grants.proofs.Entries.{all-used}
 use Rattle.chunks.proofs.Grown.{TailGrown, tail-grown}
-use Rattle.taking.specs.Takes.{grantedWith}
+use Rattle.taking.specs.Takes.{oneChunk, grantedWith}
 use Rattle.taking.proofs.Taken.{does-grant}
-use Rattle.growth.specs.Grows.{LastChunk}
 use Rattle.growth.proofs.Growing.{Open, tidy-chunks, room-regions}
-use Rattle.growth.proofs.Tail.{missing-sorted, tail-chooses, tail-left, tail-growth, cut-lawful}
+use Rattle.growth.proofs.Tail.{LastChunk, missing-sorted, tail-chooses, tail-left, tail-growth, cut-lawful}
 
 module _ (a : FrameAllocator) (ws : List ℕ) (u : Ruled a ws) (from start end : ℕ) (m : find (load a ws .sorted) (range start end) (load a ws .reservedFree) ≡ missing from ((end + 1) - from)) where
   abbrev l : Lists
@@ -60,8 +60,20 @@ module _ (a : FrameAllocator) (ws : List ℕ) (u : Ruled a ws) (from start end :
       let last : from + ((end + 1) - from) - 1 ≡ end = omega (arith, fit .2) in
       subst (λ (n : ℕ). TailGrown r s (range from n)) last (tail-grown r s from ((end + 1) - from) tidied (subst (λ (b : Bool). find b r s ≡ missing from ((end + 1) - from)) in-sorted m))
 
-  pub has-last : 0 < length s
-  has-last = omega (arith, tail .last)
+  storable : Storable true s
+  storable = subst (λ (b : Bool). Storable b s) in-sorted (storables l lawful .reserved-free)
+
+  -- the last place
+  module _ (n : ℕ) (e : n ≡ length (entries s)) where
+    pub some-chunk : 0 < n
+    some-chunk = omega (arith, e, tail .last, all-used storable)
+
+    pub has-last : n - 1 < length s
+    has-last = omega (arith, e, some-chunk, all-used storable)
+
+    pub last-is : (c : Chosen) → c ≡ oneChunk (n - 1) (rangeAt s (n - 1)) → LastChunk s c
+    last-is c p =
+        subst (LastChunk s) (sym p) (record { last = omega (arith, e, some-chunk, all-used storable); one = refl; is = refl })
 
   -- the last chunk, cut
   module _ (c : Chosen) (k : LastChunk s c) where
@@ -70,8 +82,7 @@ module _ (a : FrameAllocator) (ws : List ℕ) (u : Ruled a ws) (from start end :
 
     pub cut-fits : entriesLeft (l .sorted) c start (c .end) s ≤ bound (l .sorted)
     cut-fits =
-        let v : Storable true s = subst (λ (b : Bool). Storable b s) in-sorted (storables l lawful .reserved-free) in
-        subst (λ (b : Bool). entriesLeft b c start (c .end) s ≤ bound b) (sym in-sorted) (tail-left s r g tidied tail c k (tidy-is true s tidied .few) v)
+        subst (λ (b : Bool). entriesLeft b c start (c .end) s ≤ bound b) (sym in-sorted) (tail-left s r g tidied tail c k (tidy-is true s tidied .few) storable)
 
     abbrev cut : Lists
     cut = withSlots ReservedFree l (grantOf (l .sorted) c start (c .end) s)

@@ -11,12 +11,11 @@ use Rattle.memory_structs.specs.Choice.{if_then_else_}
 use Rattle.memory_structs.specs.Range.{meets}
 use Rattle.memory_structs.specs.declared.range.FrameRange.{FrameRange}
 use Rattle.memory_structs.proofs.Bools.{neither-first, neither-second}
-use Rattle.model.specs.Lists.{Lists, Slot, entries, anyOf, insert, bound}
+use Rattle.model.specs.Lists.{Lists, entries, anyOf, insert, bound}
 use Rattle.model.specs.Requests.{Result, notFound, find, entriesAfter, refused, granted, withReserved, fromGrown, noRoomToGrow, grow}
-use Rattle.model.specs.Rules.{slotted, tidy}
+use Rattle.model.specs.Rules.{tidy}
 use Rattle.model.specs.Store.{load}
 use Rattle.model.specs.declared.FrameAllocator.{FrameAllocator}
-use Rattle.model.proofs.Ruled.{is-slotted, tidy-is}
 use Rattle.lists.specs.declared.record.WhichList.the-variants.{ReservedFree, ReservedRegions}
 use Rattle.lists.specs.Record.{slotsAt, withSlots}
 use Rattle.lists.proofs.Whole.{tidy-list}
@@ -121,15 +120,7 @@ whole-growth l r t h n o =
     grow-on l r o r ∙ ap (fromGrown l (grown l r) r) (w .found)
     ∙ rw (le-ltb (bound (l .sorted)) (entriesAfter (l .sorted) (w .place) 1 r r (insert (l .sorted) r (l .reservedFree))) (w .fits), w .granted) refl
 
--- the rules, of the reserved lists
-pub tidy-slotted : (b : Bool) (s : List Slot) → tidy b s ≡ true → slotted b s ≡ true
-tidy-slotted b s e = is-slotted b s (tidy-is b s e .shape .slots)
-
 module _ (a : FrameAllocator) (ws : List ℕ) (u : Ruled a ws) where
-  pub tidy-regions : tidy (a .sorted) (load a ws .reservedRegions) ≡ true
-  unfolding load slotsAt
-  tidy-regions = tidy-list (load a ws) (ruled a ws u) ReservedRegions
-
   pub tidy-chunks : tidy (load a ws .sorted) (load a ws .reservedFree) ≡ true
   unfolding slotsAt
   tidy-chunks = tidy-list (load a ws) (ruled a ws u) ReservedFree

@@ -25,8 +25,13 @@ use Rattle.grants.proofs.Places.{replaced-one}
 use Rattle.grants.proofs.Entries.{leftover-bound, no-leftover, taken-out, left-is}
 use Rattle.model.proofs.Stored.{Storable}
 use Rattle.chunks.proofs.Grown.{TailGrown}
-use Rattle.growth.specs.Grows.{LastChunk}
 use Rattle.growth.proofs.Growing.{Open, grown, grow-on}
+
+-- the last of the slots, as one chunk
+pub record LastChunk (s : List Slot) (c : Chosen) : Type 0 where
+  pub last : c .first + 1 ≡ length s
+  pub one : c .many ≡ 1
+  pub is : range (c .start) (c .end) ≡ rangeAt s (c .first)
 
 -- only sorted form misses a tail
 pub missing-sorted : (l : Lists) (r : FrameRange) (f n : ℕ) → Lawful l → find (l .sorted) r (l .reservedFree) ≡ missing f n → l .sorted ≡ true

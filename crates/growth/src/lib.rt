@@ -1,7 +1,6 @@
 // Growth: frames that no list knows become a reserved region and are granted. Document 01, "Address, whole" (000,
 // `add_reserved_region_to_lists`).
 ghost use mathlib.Core.Path.{_≡_};
-ghost use mathlib.Core.Bool.{true};
 ghost use Prim.Native.Nat.{_+_, _-_, _≤_, _<_};
 ghost use lib.ListN.{length};
 ghost use Rattle.memory_structs.specs.Range.{range};
@@ -11,8 +10,7 @@ ghost use Rattle.model.specs.Store.{load};
 ghost use Rattle.lists.specs.declared.record.WhichList.the-variants.{ReservedRegions};
 ghost use Rattle.lists.specs.Record.{withSlots, AllStored};
 ghost use Rattle.rules.specs.Check.{Ruled, Does};
-ghost use Rattle.growth.specs.Grows.{growthNumber, LastChunk};
-use grants::Chosen;
+ghost use Rattle.growth.specs.Grows.{growthNumber};
 use lists::WhichList;
 use model::Called;
 use model::FrameAllocator;
@@ -44,27 +42,12 @@ pub fn grow_tail(a: FrameAllocator, words: &mut [u64], from: u64, start: u64, en
     if number != 0 {
         return rules::refused(a, number);
     }
-    let chosen = last_chunk(a, words);
+    // Only sorted form misses a tail, and there the last chunk is the highest.
+    let last = parts::count(a, words, WhichList::ReservedFree) - 1;
+    let chosen = taking::chunk_at(a, words, WhichList::ReservedFree, last);
     let cut = taking::take_out(a, words, WhichList::ReservedFree, chosen, start, chosen.end);
     let grown = add_reserved_region_to_lists(cut, words, from, end);
     taking::granted(grown, start, end)
-}
-
-// The highest reserved chunk, in sorted form.
-fn last_chunk(a: FrameAllocator, words: &[u64]) -> Chosen
-    requires { ⌜ Ruled a (now words) ⌝ }
-    requires { ⌜ (a .sorted ≡ true) × (0 < length (load a (now words) .reservedFree)) ⌝ }
-    ensures { λ r. ⌜ LastChunk (load a (now (words .entry)) .reservedFree) r ⌝ }
-{
-    let list = lists::list_of(a, WhichList::ReservedFree);
-    let last = list.len - 1;
-    let chunk = lists::entry(list, &words[1024..2048], last);
-    Chosen {
-        first: last,
-        many: 1,
-        start: chunk.start,
-        end: chunk.end,
-    }
 }
 
 // "If that part meets a general region: 13. If it meets a reserved region: 16", and 18; 0 where the part may become a region.
@@ -72,10 +55,10 @@ fn growth_refusal(a: FrameAllocator, words: &[u64], start: u64, end: u64) -> u64
     requires { ⌜ Ruled a (now words) ⌝ }
     ensures { λ r. ⌜ r ≡ growthNumber (range start end) (load a (now (words .entry))) ⌝ }
 {
-    if taking::contains_any(a, words, WhichList::GeneralRegions, start, end) {
+    if parts::contains_any(a, words, WhichList::GeneralRegions, start, end) {
         return 13;
     }
-    if taking::contains_any(a, words, WhichList::ReservedRegions, start, end) {
+    if parts::contains_any(a, words, WhichList::ReservedRegions, start, end) {
         return 16;
     }
     if no_room_to_grow(a, words) {
@@ -89,14 +72,14 @@ fn no_room_to_grow(a: FrameAllocator, words: &[u64]) -> bool
     requires { ⌜ Ruled a (now words) ⌝ }
     ensures { λ r. ⌜ r ≡ noRoomToGrow (load a (now (words .entry))) ⌝ }
 {
-    let regions = taking::count(a, words, WhichList::ReservedRegions);
-    if taking::bound(a.sorted) <= regions {
+    let regions = parts::count(a, words, WhichList::ReservedRegions);
+    if parts::bound(a.sorted) <= regions {
         return true;
     }
     if a.sorted {
         return false;
     }
-    32 <= taking::count(a, words, WhichList::ReservedFree)
+    32 <= parts::count(a, words, WhichList::ReservedFree)
 }
 
 // "Else it becomes a reserved region".
@@ -110,7 +93,5 @@ fn add_reserved_region_to_lists(
     requires { ⌜ length (model.entries (load a (now words) .reservedRegions)) < model.bound (a .sorted) ⌝ }
     ensures { λ r. ⌜ AllStored (withSlots ReservedRegions (load a (now (words .entry))) (model.insert (a .sorted) (range start end) (load a (now (words .entry)) .reservedRegions))) (now (words .entry)) r (now (words .exit)) ⌝ }
 {
-    let list = lists::list_of(a, WhichList::ReservedRegions);
-    let list = lists::insert(list, &mut words[3072..4096], start, end);
-    lists::with_list(a, WhichList::ReservedRegions, list)
+    parts::insert(a, words, WhichList::ReservedRegions, start, end)
 }

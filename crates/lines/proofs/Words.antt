@@ -3,17 +3,20 @@ use native.Mathlib.Omega.{arith}
 use Prim.Native.Nat.{ℕ, _+_, _-_, _*_, _^_, _≤_, _<_}
 use native.Mathlib.Numerals.{add-one}
 use mathlib.Core.Path.{_≡_, refl, sym, ap, _∙_}
-use mathlib.Core.Bool.{Bool, true, false, cond}
+use mathlib.Core.Bool.{Bool, true, false, cond, _&&_, false≢true}
 use mathlib.Core.List.{List, [], _∷_}
 use lib.ListN.{length, getD, take, drop, set, drop-of-length-le}
 use lib.Seq.{drop-cons, drop-drop, take-length}
-use lib.Dec.{eqb}
-use borrow.Author.Tests.{le-leb, lt-leb, lt-ltb, le-ltb}
+use lib.Dec.{ltb, eqb}
+use borrow.Author.Tests.{ltb-true, le-leb, lt-leb, lt-ltb, le-ltb, eqb-true, eq-eqb, ne-eqb}
 use Rattle.bytes.specs.Bytes.{slice, indexOf, indexAfter}
-use Rattle.lines.specs.Words.{number, withDigit, withByte, withBytes, decimalOf, inFront, wordsIn, wordsAfter, Filled, filled, invalid, putNumber, putWord, putAll}
+use Rattle.lines.specs.Words.{number, withDigit, withByte, withBytes, decimalOf, inFront, wordsIn, wordsAfter}
+use Rattle.lines.specs.Words.{sameText, generalText, reservedText, kindOf, wordOfArea, nextWord}
+use Rattle.lines.specs.Words.{Filled, filled, invalid, putNumber, putWord, putAll}
 use Rattle.lines.specs.declared.Word.{Word}
 use Rattle.lines.specs.declared.Word.the-variants.{Number, Nothing}
 use Rattle.lines.specs.declared.Reading.{Reading}
+use Rattle.lines.specs.declared.Layout.{Layout}
 
 -- ---- one more digit
 
@@ -53,6 +56,55 @@ pub decimal-ends : (w : Word) (bs : List ℕ) (i : ℕ) → length bs ≤ i → 
 unfolding withBytes
 decimal-ends w bs i all = rw (drop-of-length-le bs all)
 
+-- ---- a kind
+
+same-refl : (bs : List ℕ) → sameText bs bs ≡ true
+unfolding sameText
+same-refl [] = refl
+same-refl (b ∷ bs) = rw (eq-eqb b b refl) (same-refl bs)
+
+same-sound : (bs cs : List ℕ) → sameText bs cs ≡ true → bs ≡ cs
+unfolding sameText
+same-sound [] [] e = refl
+same-sound [] (c ∷ cs) e = absurd (false≢true e)
+same-sound (b ∷ bs) [] e = absurd (false≢true e)
+same-sound (b ∷ bs) (c ∷ cs) e = go (eqb b c) refl e (same-sound bs cs)
+  where
+    go : (t : Bool) → eqb b c ≡ t → t && sameText bs cs ≡ true → (sameText bs cs ≡ true → bs ≡ cs) → b ∷ bs ≡ c ∷ cs
+    go true first rest tail = ap (λ (x : ℕ). x ∷ bs) (eqb-true b c first) ∙ ap (_∷_ c) (tail rest)
+    go false first rest tail = absurd (false≢true rest)
+
+-- a test that says whether two texts are equal
+pub same-told : (t : Bool) (bs cs : List ℕ) → (t ≡ true → bs ≡ cs) × (bs ≡ cs → t ≡ true) → sameText bs cs ≡ t
+same-told true bs cs told = ap (sameText bs) (sym (told .0 refl)) ∙ same-refl bs
+same-told false bs cs told = go (sameText bs cs) refl
+  where
+    go : (s : Bool) → sameText bs cs ≡ s → s ≡ false
+    go true e = absurd (false≢true (told .1 (same-sound bs cs e)))
+    go false e = refl
+
+pub kind-general : (t : List ℕ) → sameText t generalText ≡ true → Number 0 ≡ kindOf t
+unfolding kindOf
+kind-general t e = rw e
+
+pub kind-reserved : (t : List ℕ) → sameText t generalText ≡ false → sameText t reservedText ≡ true → Number 1 ≡ kindOf t
+unfolding kindOf
+kind-reserved t e f = rw (e, f)
+
+pub kind-neither : (t : List ℕ) → sameText t generalText ≡ false → sameText t reservedText ≡ false → Nothing ≡ kindOf t
+unfolding kindOf
+kind-neither t e f = rw (e, f)
+
+-- ---- the words of an area
+
+pub area-kind : (place : ℕ) (t : List ℕ) → place ≡ 2 → kindOf t ≡ wordOfArea place t
+unfolding wordOfArea
+area-kind place t e = rw (eq-eqb place 2 e)
+
+pub area-number : (place : ℕ) (t : List ℕ) → (place ≡ 2 → ⊥) → decimalOf t ≡ wordOfArea place t
+unfolding wordOfArea
+area-number place t n = rw (ne-eqb place 2 n)
+
 -- ---- a number in its place
 
 pub put-fits : (n : ℕ) (r : Reading) (ws : List ℕ) → r .len < length ws → filled (record { len = r .len + 1; valid = r .valid }) (set ws (r .len) n) ≡ putNumber n r ws
@@ -90,11 +142,25 @@ word-turn bs i e more next =
     ∙ first-word (drop (i + 1) bs)
     ∙ rw (long, end, drop-drop k (i + 1) bs)
 
-pub put-turn : (bs : List ℕ) (i e : ℕ) (r : Reading) (ws : List ℕ) → i < length bs → e ≡ (i + 1) + indexOf 32 (slice (i + 1) (length bs) bs) →
-    putAll (wordsAfter (drop i bs)) (filled r ws) ≡ putAll (wordsAfter (drop e bs)) (putWord (decimalOf (take (e - (i + 1)) (drop (i + 1) bs))) r ws)
+pub put-turn : (l : Layout) (bs : List ℕ) (i e : ℕ) (r : Reading) (ws : List ℕ) →
+    i < length bs → e ≡ (i + 1) + indexOf 32 (slice (i + 1) (length bs) bs) →
+    putAll l (wordsAfter (drop i bs)) (filled r ws)
+    ≡ putAll l (wordsAfter (drop e bs)) (putWord (nextWord l r (take (e - (i + 1)) (drop (i + 1) bs))) r ws)
 unfolding putAll
-put-turn bs i e r ws more next = ap (λ (ts : List (List ℕ)). putAll ts (filled r ws)) (word-turn bs i e more next)
+put-turn l bs i e r ws more next = ap (λ (ts : List (List ℕ)). putAll l ts (filled r ws)) (word-turn bs i e more next)
 
-pub put-ends : (bs : List ℕ) (i : ℕ) (p : Filled) → length bs ≤ i → putAll (wordsAfter (drop i bs)) p ≡ p
+pub put-ends : (l : Layout) (bs : List ℕ) (i : ℕ) (p : Filled) → length bs ≤ i → putAll l (wordsAfter (drop i bs)) p ≡ p
 unfolding putAll wordsAfter
-put-ends bs i p all = rw (drop-of-length-le bs all)
+put-ends l bs i p all = rw (drop-of-length-le bs all)
+
+number-within : (n : ℕ) (r : Reading) (ws : List ℕ) (t : Bool) → ltb (r .len) (length ws) ≡ t → r .len ≤ length ws →
+    putNumber n r ws .reading .len ≤ length ws
+unfolding putNumber
+number-within n r ws true e in-place = rw e (omega (arith, ltb-true (r .len) (length ws) e))
+number-within n r ws false e in-place = rw e in-place
+
+-- no more numbers are counted than there are places
+pub put-within : (w : Word) (r : Reading) (ws : List ℕ) → r .len ≤ length ws → putWord w r ws .reading .len ≤ length ws
+unfolding putWord
+put-within (Number n) r ws in-place = number-within n r ws (ltb (r .len) (length ws)) refl in-place
+put-within Nothing r ws in-place = in-place

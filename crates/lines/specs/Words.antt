@@ -1,12 +1,14 @@
 -- The words of a line, the numbers that they stand for, and where these go. A text is a list of bytes.
-use Prim.Native.Nat.{ℕ, _+_, _-_, _*_, _^_}
-use mathlib.Core.Bool.{true, false, cond, _&&_}
+use Prim.Native.Nat.{ℕ, _+_, _-_, _*_, _^_, _%_}
+use mathlib.Core.Bool.{Bool, true, false, cond, _&&_}
 use mathlib.Core.List.{List, [], _∷_}
 use lib.ListN.{length, set}
 use lib.Dec.{leb, ltb, eqb}
 use Rattle.lines.specs.declared.Word.{Word}
 use Rattle.lines.specs.declared.Word.the-variants.{Number, Nothing}
 use Rattle.lines.specs.declared.Reading.{Reading}
+use Rattle.lines.specs.declared.Layout.{Layout}
+use Rattle.lines.specs.declared.Layout.the-variants.{Numbers, Areas}
 
 -- the number, where it is below 2^64
 unfoldable pub number : ℕ → Word
@@ -46,6 +48,38 @@ unfoldable pub wordsAfter : List ℕ → List (List ℕ)
 wordsAfter [] = []
 wordsAfter (space ∷ bs) = wordsIn bs
 
+-- whether two texts are the same, byte by byte
+unfoldable pub sameText : List ℕ → List ℕ → Bool
+sameText [] [] = true
+sameText [] (c ∷ cs) = false
+sameText (b ∷ bs) [] = false
+sameText (b ∷ bs) (c ∷ cs) = eqb b c && sameText bs cs
+
+-- "general"
+abbrev pub generalText : List ℕ
+generalText = 103 ∷ 101 ∷ 110 ∷ 101 ∷ 114 ∷ 97 ∷ 108 ∷ []
+
+-- "reserved"
+abbrev pub reservedText : List ℕ
+reservedText = 114 ∷ 101 ∷ 115 ∷ 101 ∷ 114 ∷ 118 ∷ 101 ∷ 100 ∷ []
+
+-- the number that stands for a kind
+unfoldable pub kindOf : List ℕ → Word
+kindOf t = cond (sameText t generalText) (Number 0) (cond (sameText t reservedText) (Number 1) Nothing)
+
+-- an area is two numbers and a kind
+unfoldable pub wordOfArea : ℕ → List ℕ → Word
+wordOfArea place t = cond (eqb place 2) (kindOf t) (decimalOf t)
+
+-- what a reading takes the next text for
+unfoldable pub nextWord : Layout → Reading → List ℕ → Word
+nextWord Numbers r t = decimalOf t
+nextWord Areas r t = wordOfArea (r .len % 3) t
+
+-- whether each word was one of an area, and the last area is whole
+abbrev pub areAreas : Reading → Bool
+areAreas r = r .valid && eqb (r .len % 3) 0
+
 -- a reading, and the lent words that its numbers went to
 pub record Filled : Type 0 where
   pub reading : Reading
@@ -69,11 +103,11 @@ unfoldable pub putWord : Word → Reading → List ℕ → Filled
 putWord (Number n) r ws = putNumber n r ws
 putWord Nothing r ws = filled (invalid r) ws
 
--- the number of each text, in turn
-unfoldable pub putAll : List (List ℕ) → Filled → Filled
-putAll [] p = p
-putAll (t ∷ ts) p = putAll ts (putWord (decimalOf t) (p .reading) (p .numbers))
+-- the word of each text, in turn
+unfoldable pub putAll : Layout → List (List ℕ) → Filled → Filled
+putAll l [] p = p
+putAll l (t ∷ ts) p = putAll l ts (putWord (nextWord l (p .reading) t) (p .reading) (p .numbers))
 
--- the numbers of what follows a name, put from the first place on
-abbrev pub readAfter : List ℕ → List ℕ → Filled
-readAfter text ws = putAll (wordsAfter text) (filled nothingRead ws)
+-- the words of what follows a name, put from the first place on
+abbrev pub readAfter : Layout → List ℕ → List ℕ → Filled
+readAfter l text ws = putAll l (wordsAfter text) (filled nothingRead ws)

@@ -1,8 +1,17 @@
-// The words of a line of text, parted by one space: numbers in decimal, below 2^64, read into lent words. For the programs that replay
-// the Rust's answers.
+// The words of a line of text, parted by one space: numbers in decimal, below 2^64, and kinds of areas, read into lent words; and words
+// written to a line. For the programs that replay the Rust's answers.
 ghost use mathlib.Core.Path.{_≡_};
-ghost use lib.ListN.{drop};
+ghost use Prim.Native.Nat.{_≤_};
+ghost use lib.ListN.{length, drop};
 ghost use Rattle.lines.specs.Words as words;
+
+pub mod written;
+
+// What the words that follow a name are: numbers, or areas of two numbers and a kind each.
+pub enum Layout {
+    Numbers,
+    Areas,
+}
 
 // What a word of the line stands for.
 pub enum Word {
@@ -25,9 +34,17 @@ pub fn nothing_read() -> Reading
     }
 }
 
-// Reads the numbers that follow the name, which ends here.
-pub fn read_numbers(line: &[u8], name_end: usize, numbers: &mut [u64]) -> Reading
-    ensures { λ r. ⌜ words.filled r (now (numbers .exit)) ≡ words.readAfter (drop «name_end» (now (line .entry))) (now (numbers .entry)) ⌝ }
+// Whether the words were areas, the last of them whole.
+pub fn are_areas(r: Reading) -> bool
+    ensures { λ b. ⌜ b ≡ words.areAreas r ⌝ }
+{
+    r.valid && r.len % 3 == 0
+}
+
+// Reads the words that follow the name, which ends here.
+pub fn read_words(line: &[u8], name_end: usize, layout: Layout, numbers: &mut [u64]) -> Reading
+    ensures { λ r. ⌜ words.filled r (now (numbers .exit)) ≡ words.readAfter layout (drop «name_end» (now (line .entry))) (now (numbers .entry)) ⌝ }
+    ensures { λ r. ⌜ r .len ≤ length (now (numbers .exit)) ⌝ }
 {
     let mut read = nothing_read();
     let mut at = name_end;
@@ -35,9 +52,41 @@ pub fn read_numbers(line: &[u8], name_end: usize, numbers: &mut [u64]) -> Readin
         // Past the space.
         let start = at + 1;
         at = bytes::scan::find(line, start, line.len(), b' ');
-        read = put(read, decimal(&line[start..at]), numbers);
+        read = put(read, next_word(layout, read, &line[start..at]), numbers);
     }
     read
+}
+
+// The third word of an area is its kind.
+fn next_word(layout: Layout, r: Reading, text: &[u8]) -> Word
+    ensures { λ w. ⌜ w ≡ words.nextWord layout r (now (text .entry)) ⌝ }
+{
+    match layout {
+        Layout::Numbers => decimal(text),
+        Layout::Areas => word_of_area(r.len % 3, text),
+    }
+}
+
+fn word_of_area(place: usize, text: &[u8]) -> Word
+    ensures { λ w. ⌜ w ≡ words.wordOfArea place (now (text .entry)) ⌝ }
+{
+    if place == 2 {
+        return kind(text);
+    }
+    decimal(text)
+}
+
+// 0 for `general` and 1 for `reserved`, as boot takes them.
+fn kind(text: &[u8]) -> Word
+    ensures { λ w. ⌜ w ≡ words.kindOf (now (text .entry)) ⌝ }
+{
+    if check::same(text, b"general") {
+        return Word::Number(0);
+    }
+    if check::same(text, b"reserved") {
+        return Word::Number(1);
+    }
+    Word::Nothing
 }
 
 // Puts the next number in its place.

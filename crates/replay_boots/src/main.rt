@@ -18,12 +18,14 @@ mod reading;
 mod ways;
 
 use areas::AreaUnit;
-use lines::Reading;
+use lines::Layout;
+use lines::written;
 use reading::Way;
 
 fn main() {
     let mut text = io::large_buffer();
     let n = io::read_full(0, &mut text);
+    // Room for 40 areas, so that 33 reserved ones or 33 pieces fit.
     let mut areas = [0; 120];
     replay(&text[..n], &mut areas);
 }
@@ -46,26 +48,20 @@ fn answer_line(line: &[u8], areas: &mut [u64]) {
     } else if first_end < line.len() {
         answer_boot(way, &line[first_end + 1..], areas);
     } else {
-        answers::bad();
+        written::bad();
     }
 }
 
 // Boots this way where the line is a name and a list of areas, and prints the answer.
 fn answer_boot(way: Way, line: &[u8], areas: &mut [u64]) {
     let name_end = bytes::scan::find(line, 0, line.len(), b' ');
-    let read = reading::read_areas(line, name_end, areas);
-    answer(way, &line[..name_end], read, areas);
-}
-
-fn answer(way: Way, name: &[u8], read: Reading, areas: &[u64]) {
+    let read = lines::read_words(line, name_end, Layout::Areas, areas);
     let len = read.len;
-    if reading::is_whole(read) {
-        if len <= areas.len() {
-            boot_by_name(way, name, &areas[..len]);
-            return;
-        }
+    if lines::are_areas(read) {
+        boot_by_name(way, &line[..name_end], &areas[..len]);
+    } else {
+        written::bad();
     }
-    answers::bad();
 }
 
 fn boot_by_name(way: Way, name: &[u8], areas: &[u64]) {
@@ -74,6 +70,6 @@ fn boot_by_name(way: Way, name: &[u8], areas: &[u64]) {
     } else if check::same(name, b"boot_bytes") {
         ways::boot(way, areas, AreaUnit::Bytes);
     } else {
-        answers::bad();
+        written::bad();
     }
 }

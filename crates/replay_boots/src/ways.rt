@@ -2,8 +2,6 @@
 use crate::answers;
 use crate::reading::Way;
 use areas::AreaUnit;
-use lists::OneList;
-use lists::WhichList;
 use model::Called;
 use model::FrameAllocator;
 
@@ -47,14 +45,7 @@ fn short(areas: &[u64], unit: AreaUnit) {
 
 fn broken_slot(areas: &[u64], unit: AreaUnit) {
     let words = [0; 4096];
-    let mut early = lists::unused_slots();
-    early.used[0] = true;
-    let list = OneList {
-        sorted: false,
-        early,
-        len: 0,
-    };
-    let broken = lists::with_list(lists::fresh(), WhichList::GeneralFree, list);
+    let broken = replays::with_broken_slot(lists::fresh());
     answers::called(init(broken, areas, unit, &words), &words);
 }
 

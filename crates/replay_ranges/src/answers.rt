@@ -1,5 +1,5 @@
-// Answers as lines: `yes` or `no` and the value, a range as its start and end; `refused 2`; `(bad)` where the line is no call.
-use libc::STDOUT_FILENO;
+// Answers as lines: `yes` or `no` and the value, a range as its start and end; `refused 2`.
+use lines::written;
 use memory_structs::FrameRange;
 use memory_structs::MaybeHalves;
 use memory_structs::MaybeNumber;
@@ -7,17 +7,13 @@ use memory_structs::MaybeRange;
 use memory_structs::MaybeSplit;
 use memory_structs::YesNo;
 
-pub fn bad() {
-    io::write_all(STDOUT_FILENO, b"(bad)\n");
-}
-
 pub fn test(answer: YesNo) {
     match answer {
         YesNo::OutOfBounds => refused(),
         YesNo::No => no(),
         YesNo::Yes => yes(),
     }
-    line_end();
+    written::end();
 }
 
 pub fn number(answer: MaybeNumber) {
@@ -25,14 +21,14 @@ pub fn number(answer: MaybeNumber) {
         MaybeNumber::OutOfBounds => refused(),
         MaybeNumber::Nothing => {
             no();
-            put_number(0);
+            written::number(0);
         }
         MaybeNumber::Number(n) => {
             yes();
-            put_number(n);
+            written::number(n);
         }
     }
-    line_end();
+    written::end();
 }
 
 pub fn range(answer: MaybeRange) {
@@ -47,7 +43,7 @@ pub fn range(answer: MaybeRange) {
             put_range(r);
         }
     }
-    line_end();
+    written::end();
 }
 
 pub fn split(answer: MaybeSplit) {
@@ -62,7 +58,7 @@ pub fn split(answer: MaybeSplit) {
             put_parts(s.before_start, s.start_to_end, s.after_end);
         }
     }
-    line_end();
+    written::end();
 }
 
 pub fn halves(answer: MaybeHalves) {
@@ -79,37 +75,28 @@ pub fn halves(answer: MaybeHalves) {
             put_range(h.second);
         }
     }
-    line_end();
+    written::end();
 }
 
 fn refused() {
-    io::write_all(STDOUT_FILENO, b"refused 2");
+    written::text(b"refused 2");
 }
 
 fn no() {
-    io::write_all(STDOUT_FILENO, b"no");
+    written::text(b"no");
 }
 
 fn yes() {
-    io::write_all(STDOUT_FILENO, b"yes");
-}
-
-fn put_number(n: u64) {
-    io::write_all(STDOUT_FILENO, b" ");
-    io::print_decimal(STDOUT_FILENO, n);
+    written::text(b"yes");
 }
 
 fn put_range(r: FrameRange) {
-    put_number(r.start);
-    put_number(r.end);
+    written::number(r.start);
+    written::number(r.end);
 }
 
 fn put_parts(a: FrameRange, b: FrameRange, c: FrameRange) {
     put_range(a);
     put_range(b);
     put_range(c);
-}
-
-fn line_end() {
-    io::write_all(STDOUT_FILENO, b"\n");
 }

@@ -2,7 +2,9 @@
 // line of standard output is what our call answers. The file `stdout` holds what the Rust answered; oracle/README.md says how it was made.
 mod answers;
 
+use lines::Layout;
 use lines::Reading;
+use lines::written;
 use memory_structs::FrameRange;
 
 fn main() {
@@ -24,7 +26,7 @@ fn replay(text: &[u8]) {
 fn answer_line(line: &[u8]) {
     let name_end = bytes::scan::find(line, 0, line.len(), b' ');
     let mut numbers = [0; 4];
-    let read = lines::read_numbers(line, name_end, &mut numbers);
+    let read = lines::read_words(line, name_end, Layout::Numbers, &mut numbers);
     answer(&line[..name_end], read, numbers);
 }
 
@@ -42,7 +44,7 @@ fn answer(name: &[u8], read: Reading, n: [u64; 4]) {
             FrameRange::new(n[2], n[3]),
         );
     } else {
-        answers::bad();
+        written::bad();
     }
 }
 
@@ -57,7 +59,7 @@ fn answer_two(name: &[u8], a: u64, b: u64) {
     } else if check::same(name, b"from_phys_addr") {
         answers::range(FrameRange::from_phys_addr(a, b));
     } else {
-        answers::bad();
+        written::bad();
     }
 }
 
@@ -71,7 +73,7 @@ fn answer_three(name: &[u8], r: FrameRange, n: u64) {
     } else if check::same(name, b"split_at") {
         answers::halves(r.split_at(n));
     } else {
-        answers::bad();
+        written::bad();
     }
 }
 
@@ -85,6 +87,6 @@ fn answer_four(name: &[u8], a: FrameRange, b: FrameRange) {
     } else if check::same(name, b"split_range") {
         answers::split(a.split_range(b));
     } else {
-        answers::bad();
+        written::bad();
     }
 }

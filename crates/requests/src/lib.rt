@@ -4,14 +4,6 @@ ghost use Rattle.model.specs.Calls.{countCall, countBytesCall, addressCall, add
 use model::Called;
 use model::FrameAllocator;
 
-mod met;
-
-pub use met::bytes_at;
-pub use met::count_bytes;
-pub use met::count_frames;
-pub use met::frames_at;
-pub use met::general_frames_at;
-
 // So many general frames, wherever they are.
 pub fn allocate_frames(a: FrameAllocator, words: &mut [u64], num_frames: u64) -> Called
     ensures { λ r. ⌜ Gives (countCall «num_frames») a (now (words .entry)) r (now (words .exit)) ⌝ }
@@ -20,7 +12,7 @@ pub fn allocate_frames(a: FrameAllocator, words: &mut [u64], num_frames: u64) ->
     if number != 0 {
         return rules::refused(a, number);
     }
-    count_frames(a, words, num_frames)
+    by_count::count_frames(a, words, num_frames)
 }
 
 // General frames for so many bytes.
@@ -31,7 +23,7 @@ pub fn allocate_frames_by_bytes(a: FrameAllocator, words: &mut [u64], num_bytes:
     if number != 0 {
         return rules::refused(a, number);
     }
-    count_bytes(a, words, num_bytes)
+    by_count::count_bytes(a, words, num_bytes)
 }
 
 // The frames from this one on.
@@ -47,7 +39,7 @@ pub fn allocate_frames_at(
     if number != 0 {
         return rules::refused(a, number);
     }
-    frames_at(a, words, frame, num_frames)
+    by_address::frames_at(a, words, frame, num_frames)
 }
 
 // The frames of so many bytes from this address on.
@@ -63,7 +55,7 @@ pub fn allocate_frames_by_bytes_at(
     if number != 0 {
         return rules::refused(a, number);
     }
-    bytes_at(a, words, address, num_bytes)
+    by_address::bytes_at(a, words, address, num_bytes)
 }
 
 // The frames from this one on, if they are general.
@@ -79,5 +71,5 @@ pub fn allocate_general_frames_at(
     if number != 0 {
         return rules::refused(a, number);
     }
-    general_frames_at(a, words, frame, num_frames)
+    by_address::general_frames_at(a, words, frame, num_frames)
 }

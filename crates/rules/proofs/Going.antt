@@ -1,12 +1,13 @@
 -- Calls on a record that the test let go on, one after the other.
 use Prim.Native.Nat.{ℕ, _≤_}
 use native.Mathlib.Omega.{arith}
-use mathlib.Core.Path.{_≡_, refl, sym, ap, _∙_}
+use mathlib.Core.Path.{_≡_, refl, sym, ap, subst, _∙_}
 use mathlib.Core.Bool.{true, false}
 use mathlib.Core.List.{List}
 use lib.ListN.{length}
 use Rattle.memory_structs.proofs.Bools.{both-first, both-second}
 use Rattle.model.specs.Lists.{Lists}
+use Rattle.model.specs.Requests.{Result}
 use Rattle.model.specs.Rules.{rules}
 use Rattle.model.specs.Store.{load, recordOf, wordsOf, storeRules}
 use Rattle.model.specs.Calls.{Call, Gives, answer, shortBuffer, keepsRules}
@@ -59,3 +60,7 @@ stored-stands l ws h w a after p q =
 -- in code: what a call that goes on does is what it gives
 pub gives-does : (c : Call) (a : FrameAllocator) (ws : List ℕ) → shortBuffer c ≡ false → checked a ws ≡ 0 → (called : Called) (after : List ℕ) → Does (answer c (load a ws)) ws called after → Gives c a ws called after
 gives-does c a ws e z called after d = gives-stored c a ws e z called after (d .answers) (d .records) (d .words)
+
+-- another name for what is done
+pub does-as : {r o : Result} {ws after : List ℕ} {called : Called} → r ≡ o → Does o ws called after → Does r ws called after
+does-as {ws = ws} {after = after} {called = called} e d = subst (λ (x : Result). Does x ws called after) (sym e) d

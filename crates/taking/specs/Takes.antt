@@ -3,6 +3,7 @@ use Prim.Native.Nat.{ℕ}
 use lib.Dec.{ltb}
 use Rattle.memory_structs.specs.Choice.{if_then_else_}
 use Rattle.memory_structs.specs.Range.{range}
+use Rattle.memory_structs.specs.declared.range.FrameRange.{FrameRange}
 use Rattle.model.specs.Lists.{Lists, bound}
 use Rattle.model.specs.Requests.{Result, refused, granted}
 use Rattle.model.specs.declared.Called.{Called}
@@ -11,6 +12,10 @@ use Rattle.lists.specs.declared.record.WhichList.{WhichList}
 use Rattle.lists.specs.Record.{slotsAt, withSlots}
 use Rattle.grants.specs.declared.Chosen.{Chosen}
 use Rattle.grants.specs.Grants.{grantOf, entriesLeft}
+
+-- one chunk, chosen
+abbrev pub oneChunk : ℕ → FrameRange → Chosen
+oneChunk i c = record { first = i; many = 1; start = c .start; end = c .end }
 
 -- 18: "after the call a list would hold more than 32 (early) or 512 (sorted) entries"; else the grant.
 -- `general-taken` and `reserved-taken` (proofs/Taken) say that this is the model's `takeGeneral` and `takeReserved`.

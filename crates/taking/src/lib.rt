@@ -1,8 +1,8 @@
-// One of the lists of a record that keeps the rules: counted, searched, and chunks taken out of it. Document 01, "How a request is met".
+// One of the lists of a record that keeps the rules: searched, and chunks taken out of it. Document 01, "How a request is met".
 ghost use mathlib.Core.Path.{_≡_};
-ghost use Prim.Native.Nat.{_≤_};
+ghost use Prim.Native.Nat.{_≤_, _<_};
 ghost use lib.ListN.{length};
-ghost use Rattle.memory_structs.specs.Range.{range, meets};
+ghost use Rattle.memory_structs.specs.Range.{range};
 ghost use Rattle.model.specs.Lists as model;
 ghost use Rattle.model.specs.Requests.{find};
 ghost use Rattle.model.specs.Store.{load};
@@ -10,7 +10,7 @@ ghost use Rattle.lists.specs.Record.{slotsAt, withSlots, AllStored};
 ghost use Rattle.rules.specs.Check.{Ruled, Does};
 ghost use Rattle.grants.specs.Grants.{Chooses, grantOf, entriesLeft};
 ghost use Rattle.chunks.specs.Searches.{foundOf};
-ghost use Rattle.taking.specs.Takes.{taken, grantedWith};
+ghost use Rattle.taking.specs.Takes.{oneChunk, taken, grantedWith};
 use chunks::Search;
 use grants::Chosen;
 use lists::WhichList;
@@ -36,29 +36,21 @@ pub fn find_specific_chunk(
     chunks::find_specific_chunk(list, &words[from..from + 1024], start, end)
 }
 
-// How many entries the list has.
-pub fn count(a: FrameAllocator, words: &[u64], which: WhichList) -> usize
+// The slot at i as one chosen chunk.
+pub fn chunk_at(a: FrameAllocator, words: &[u64], which: WhichList, i: usize) -> Chosen
     requires { ⌜ Ruled a (now words) ⌝ }
-    ensures { λ r. ⌜ r ≡ length (model.entries (slotsAt which (load a (now (words .entry))))) ⌝ }
-{
-    let from = lists::part_of(which);
-    lists::count(lists::list_of(a, which), &words[from..from + 1024])
-}
-
-// Whether an entry of the list has a frame of the range.
-pub fn contains_any(
-    a: FrameAllocator,
-    words: &[u64],
-    which: WhichList,
-    start: u64,
-    end: u64,
-) -> bool
-    requires { ⌜ Ruled a (now words) ⌝ }
-    ensures { λ r. ⌜ r ≡ model.anyOf (meets (range start end)) (model.entries (slotsAt which (load a (now (words .entry))))) ⌝ }
+    requires { ⌜ i < length (slotsAt which (load a (now words))) ⌝ }
+    ensures { λ r. ⌜ r ≡ oneChunk i (model.rangeAt (slotsAt which (load a (now (words .entry)))) i) ⌝ }
 {
     let from = lists::part_of(which);
     let list = lists::list_of(a, which);
-    lists::meets(list, &words[from..from + 1024], start, end)
+    let chunk = lists::entry(list, &words[from..from + 1024], i);
+    Chosen {
+        first: i,
+        many: 1,
+        start: chunk.start,
+        end: chunk.end,
+    }
 }
 
 // The frames from start to end are granted from the chunks that hold them; 18 where what is left over has no place.
@@ -74,7 +66,7 @@ pub fn take(
     requires { ⌜ Chooses (a .sorted) (slotsAt which (load a (now words))) chosen start end ⌝ }
     ensures { λ r. ⌜ Does (taken which chosen start end (load a (now (words .entry)))) (now (words .entry)) r (now (words .exit)) ⌝ }
 {
-    if bound(a.sorted) < entries_after(a, words, which, chosen, start, end) {
+    if parts::bound(a.sorted) < entries_after(a, words, which, chosen, start, end) {
         return rules::refused(a, 18);
     }
     granted(take_out(a, words, which, chosen, start, end), start, end)
@@ -122,13 +114,6 @@ pub fn take_out(
         end,
     );
     lists::with_list(a, which, list)
-}
-
-// "more than 32 (early) or 512 (sorted) entries"
-pub fn bound(sorted: bool) -> usize
-    ensures { λ r. ⌜ r ≡ model.bound sorted ⌝ }
-{
-    if sorted { 512 } else { 32 }
 }
 
 // "An accepted call returns number 0, the granted range [..], frame 0", and count 0.

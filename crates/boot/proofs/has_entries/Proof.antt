@@ -1,49 +1,59 @@
--- `has_entries`: one list after the other.
-use mathlib.Core.Path.{sym, _∙_}
-use Rattle.lists.specs.declared.record.WhichList.the-variants.{GeneralFree, ReservedFree, GeneralRegions}
-use Rattle.boot.proofs.Given.{some-entries, last-entries}
+-- `has_entries`: the sum of the four counts.
+use Prim.Native.Nat.{_≤_}
+use native.Mathlib.Omega.{arith}
+use Rattle.lists.specs.declared.record.WhichList.the-variants.{GeneralFree, ReservedFree, GeneralRegions, ReservedRegions}
+use Rattle.parts.proofs.Tidy.{few}
+use Rattle.boot.proofs.Given.{entries-counted}
 use borrow.Author.Needs.{needs}
 use Rattle.boot.proofs.has_entries.Statement.{statement}
 use Rattle.boot.proofs.has_entries.Tie as tie
 
-has-entry-requires : tie.Need-has-entry-requires
-has-entry-requires c κs = search needs
+count-requires : tie.Need-count-requires
+count-requires c κs = search needs
+
+count-requires-2 : tie.Need-count-requires-2
+count-requires-2 c κs = search needs
+
+count-requires-3 : tie.Need-count-requires-3
+count-requires-3 c κs = search needs
+
+count-requires-4 : tie.Need-count-requires-4
+count-requires-4 c κs = search needs
+
+-- each count is small
+first : (c : tie.After-count) → c .count .result ≤ 512
+first c = let s = c .before .before in omega (arith, c .count .ensures, few (s .args .a) (s .args .words .now) (s .pre) GeneralFree)
+
+second : (c : tie.After-count2) → c .count2 .result ≤ 512
+second c = let s = c .before .before .before in omega (arith, c .count2 .ensures, few (s .args .a) (s .args .words .now) (s .pre) ReservedFree)
+
+third : (c : tie.After-count3) → c .count3 .result ≤ 512
+third c = let s = c .before .before .before .before in omega (arith, c .count3 .ensures, few (s .args .a) (s .args .words .now) (s .pre) GeneralRegions)
+
+fourth : (c : tie.After-count4) → c .count4 .result ≤ 512
+fourth c = let s = c .before .before .before .before .before in omega (arith, c .count4 .ensures, few (s .args .a) (s .args .words .now) (s .pre) ReservedRegions)
+
+add-result : tie.Need-add-result
+add-result c = omega (arith, first (c .before .before .before), second (c .before .before))
+
+add-result-2 : tie.Need-add-result-2
+add-result-2 c = omega (arith, first (c .before .before .before), second (c .before .before), third (c .before))
+
+add-result-3 : tie.Need-add-result-3
+add-result-3 c = omega (arith, first (c .before .before .before), second (c .before .before), third (c .before), fourth c)
 
 returns : tie.Need-returns
-returns c = some-entries _ GeneralFree (sym (c .if1 .taken) ∙ c .before .has-entry .ensures)
-
-has-entry-requires-2 : tie.Need-has-entry-requires-2
-has-entry-requires-2 c κs = search needs
-
-returns-2 : tie.Need-returns-2
-returns-2 c = some-entries _ ReservedFree (sym (c .if2 .taken) ∙ c .before .has-entry2 .ensures)
-
-has-entry-requires-3 : tie.Need-has-entry-requires-3
-has-entry-requires-3 c κs = search needs
-
-returns-3 : tie.Need-returns-3
-returns-3 c = some-entries _ GeneralRegions (sym (c .if3 .taken) ∙ c .before .has-entry3 .ensures)
-
-has-entry-requires-4 : tie.Need-has-entry-requires-4
-has-entry-requires-4 c κs = search needs
-
-returns-4 : tie.Need-returns-4
-returns-4 c =
-    let k = c .before in
-    let j = k .before .before in
-    let i = j .before .before in
-    c .has-entry4 .ensures
-    ∙ last-entries _ (sym (i .if1 .left) ∙ i .before .has-entry .ensures) (sym (j .if2 .left) ∙ j .before .has-entry2 .ensures) (sym (k .if3 .left) ∙ k .before .has-entry3 .ensures)
+returns c = entries-counted _ (c .before .before .before .count .ensures) (c .before .before .count2 .ensures) (c .before .count3 .ensures) (c .count4 .ensures)
 
 pub has-entries-spec : {M : Type 1} → statement M
 has-entries-spec =
     tie.close
     (tie.spec
-    has-entry-requires
-    returns
-    has-entry-requires-2
-    returns-2
-    has-entry-requires-3
-    returns-3
-    has-entry-requires-4
-    returns-4)
+    count-requires
+    count-requires-2
+    count-requires-3
+    count-requires-4
+    add-result
+    add-result-2
+    add-result-3
+    returns)

@@ -19,9 +19,7 @@ passed : (c : tie.Else1) → checked (c .before .before .before .args .a) (c .be
 passed c = sym (c .before .check .ensures) ∙ c .if1 .left
 
 has-entries-requires : tie.Need-has-entries-requires
-has-entries-requires c κs =
-    let s = checked-ruled _ _ (passed c) in
-    (s .long, s .keeps)
+has-entries-requires c κs = checked-ruled _ _ (passed c)
 
 returns-2 : tie.Need-returns-2
 returns-2 c = ten _ _ (passed (c .before .before)) (not-true _ (sym (c .before .has-entries .ensures) ∙ c .if2 .taken))

@@ -5,7 +5,7 @@ use native.Mathlib.Omega.{arith}
 use lib.ListN.{getD}
 use Rattle.memory_structs.specs.Range.{range}
 use Rattle.model.proofs.Boots.{past-from}
-use Rattle.carving.specs.Ranges.{listOf}
+use Rattle.carving.specs.Ranges.{rangeListOf}
 use Rattle.carving.proofs.Turns.{Turn, turn-start, area-low, area-filled, area-below, area-above, starts-above, part-above, carved-stop, carved-end}
 use borrow.Fn.Kinds.{In}
 use borrow.Fn.PlainCycle.{Measures, is, falls, and}
@@ -38,7 +38,7 @@ asked t =
 
 abbrev Inv-loop : lts.InvT-loop
 Inv-loop starts ends len start end pieces₀ current-start₀ current-end₀ i₀ pieces current-start current-end i =
-    Turn (listOf starts ends len) start end pieces₀ pieces current-start current-end i
+    Turn (rangeListOf starts ends len) start end pieces₀ pieces current-start current-end i
 
 abbrev μ-loop : lts.MeasureT-loop
 μ-loop starts ends len start end pieces₀ current-start₀ current-end₀ i₀ pieces current-start current-end i =

@@ -5,7 +5,7 @@ use Prim.Native.Nat.{_+_, _-_, _*_, _≤_}
 use Rattle.memory_structs.specs.Range.{range, top}
 use Rattle.model.proofs.Ruled.{tidy-is}
 use Rattle.model.specs.declared.EarlyList.{EarlyList}
-use Rattle.early.specs.Slots.{listOf, framesIn}
+use Rattle.early.specs.Slots.{earlyListOf, framesIn}
 use Rattle.early.proofs.UsedSlots.{entriesFrom, none-used, frames-here, frames-none, used-sound}
 use native.Mathlib.Omega.{arith}
 use Rattle.early.proofs.frames_in.Statement.{statement}
@@ -13,14 +13,14 @@ use Rattle.early.proofs.frames_in.Tie as tie
 
 abbrev Inv-loop : tie.InvT-loop
 Inv-loop starts ends used start end total₀ i₀ total i =
-    (i ≤ 32) × (total ≤ i * (top + 1)) × (framesIn (range start end) (entriesFrom 0 (listOf starts ends used)) ≡ total + framesIn (range start end) (entriesFrom i (listOf starts ends used)))
+    (i ≤ 32) × (total ≤ i * (top + 1)) × (framesIn (range start end) (entriesFrom 0 (earlyListOf starts ends used)) ≡ total + framesIn (range start end) (entriesFrom i (earlyListOf starts ends used)))
 
 abbrev μ-loop : tie.MeasureT-loop
 μ-loop starts ends used start end total₀ i₀ total i = 32 - i
 
 -- the list whose arrays are lent
 abbrev list : tie.Start Inv-loop μ-loop → EarlyList
-list c = listOf (c .args .starts .now) (c .args .ends .now) (c .args .used .now)
+list c = earlyListOf (c .args .starts .now) (c .args .ends .now) (c .args .used .now)
 
 loop-holds : tie.Need-loop-holds Inv-loop μ-loop
 loop-holds c = omega arith

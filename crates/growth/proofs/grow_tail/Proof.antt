@@ -4,8 +4,9 @@ use Rattle.memory_structs.specs.Range.{range}
 use Rattle.model.specs.Store.{load}
 use Rattle.lists.specs.Record.{slotsAt}
 use Rattle.taking.proofs.Taken.{does-refuse}
+use Rattle.growth.proofs.Tail.{LastChunk}
 use Rattle.growth.proofs.Growing.{Open, open-growth, grow-refused}
-use Rattle.growth.proofs.Cut.{in-sorted, has-last, cut-chooses, cut-fits, cut-ruled, cut-room, tail-done}
+use Rattle.growth.proofs.Cut.{some-chunk, has-last, last-is, cut-chooses, cut-fits, cut-ruled, cut-room, tail-done}
 use borrow.Author.Needs.{needs}
 use Rattle.growth.proofs.grow_tail.Statement.{statement}
 use Rattle.growth.proofs.grow_tail.Tie as tie
@@ -31,27 +32,45 @@ returns c =
 may-grow : (c : tie.Else1) → Open (load (c .before .before .before .before .args .a) (c .before .before .before .before .args .words .now)) (range (c .before .before .before .before .args .from) (c .before .before .before .before .args .end))
 may-grow c = open-growth _ _ (sym (c .before .growth-refusal .ensures) ∙ c .if1 .left)
 
-last-chunk-requires : tie.Need-last-chunk-requires
+count-requires : tie.Need-count-requires
+count-requires c κs = search needs
+
+sub-last : tie.Need-sub-last
 unfolding load slotsAt
-last-chunk-requires c κs =
-    let s = c .before .before .before .before .before in
-    (s .pre .0, (in-sorted (s .args .a) (s .args .words .now) (s .pre .0) (s .args .from) (s .args .start) (s .args .end) (s .pre .1 .1), has-last (s .args .a) (s .args .words .now) (s .pre .0) (s .args .from) (s .args .start) (s .args .end) (s .pre .1 .1)))
+sub-last c =
+    let s = c .before .before .before .before .before .before in
+    some-chunk (s .args .a) (s .args .words .now) (s .pre .0) (s .args .from) (s .args .start) (s .args .end) (s .pre .1 .1) _ (c .count .ensures)
+
+chunk-at-requires : tie.Need-chunk-at-requires
+unfolding load slotsAt
+chunk-at-requires c κs =
+    let k = c .before in
+    let s = k .before .before .before .before .before .before in
+    (s .pre .0, has-last (s .args .a) (s .args .words .now) (s .pre .0) (s .args .from) (s .args .start) (s .args .end) (s .pre .1 .1) _ (k .count .ensures))
+
+last : (c : tie.After-chunk-at) → LastChunk (load (c .before .before .before .before .before .before .before .before .args .a) (c .before .before .before .before .before .before .before .before .args .words .now) .reservedFree) (c .chunk-at .result)
+unfolding load slotsAt
+last c =
+    let s = c .before .before .before .before .before .before .before .before in
+    last-is (s .args .a) (s .args .words .now) (s .pre .0) (s .args .from) (s .args .start) (s .args .end) (s .pre .1 .1) _ (c .before .before .count .ensures) _ (c .chunk-at .ensures)
 
 take-out-requires : tie.Need-take-out-requires
 unfolding load slotsAt
 take-out-requires c κs =
     let k = c .before in
-    let s = k .before .before .before .before .before .before in
-    (s .pre .0, (cut-chooses (s .args .a) (s .args .words .now) (s .pre .0) (s .args .from) (s .args .start) (s .args .end) (s .pre .1 .1) (k .last-chunk .result) (k .last-chunk .ensures), cut-fits (s .args .a) (s .args .words .now) (s .pre .0) (s .args .from) (s .args .start) (s .args .end) (s .pre .1 .1) (k .last-chunk .result) (k .last-chunk .ensures)))
+    let s = k .before .before .before .before .before .before .before .before in
+    (s .pre .0, (cut-chooses (s .args .a) (s .args .words .now) (s .pre .0) (s .args .from) (s .args .start) (s .args .end) (s .pre .1 .1) _ (last k), cut-fits (s .args .a) (s .args .words .now) (s .pre .0) (s .args .from) (s .args .start) (s .args .end) (s .pre .1 .1) _ (last k)))
 
 add-reserved-region-to-lists-requires : tie.Need-add-reserved-region-to-lists-requires
 unfolding load slotsAt
 add-reserved-region-to-lists-requires c κs =
     let t = c .before .before .before in
     let k = t .before .before in
-    let e = k .before .before in
-    let s = e .before .before .before .before in
-    (cut-ruled (s .args .a) (s .args .words .now) (s .pre .0) (s .args .from) (s .args .start) (s .args .end) (s .pre .1 .1) (k .last-chunk .result) (k .last-chunk .ensures) (t .take-out .ensures), cut-room (s .args .a) (s .args .words .now) (s .pre .0) (s .args .from) (s .args .start) (s .args .end) (s .pre .1 .1) (k .last-chunk .result) (k .last-chunk .ensures) (t .take-out .ensures) (may-grow e))
+    let e = k .before .before .before .before in
+    let s = e .before .before .before .before in (
+      cut-ruled (s .args .a) (s .args .words .now) (s .pre .0) (s .args .from) (s .args .start) (s .args .end) (s .pre .1 .1) _ (last k) (t .take-out .ensures),
+      cut-room (s .args .a) (s .args .words .now) (s .pre .0) (s .args .from) (s .args .start) (s .args .end) (s .pre .1 .1) _ (last k) (t .take-out .ensures) (may-grow e),
+    )
 
 granted-requires : tie.Need-granted-requires
 granted-requires c κs = search needs
@@ -65,9 +84,9 @@ returns-2 c =
     let d = c .before .before .before in
     let t = d .before .before .before .before in
     let k = t .before .before in
-    let e = k .before .before in
+    let e = k .before .before .before .before in
     let s = e .before .before .before .before in
-    tail-done (s .args .a) (s .args .words .now) (s .pre .0) (s .args .from) (s .args .start) (s .args .end) (s .pre .1 .1) (k .last-chunk .result) (k .last-chunk .ensures) (t .take-out .ensures) (may-grow e) (d .add-reserved-region-to-lists .ensures) _ (c .granted .ensures)
+    tail-done (s .args .a) (s .args .words .now) (s .pre .0) (s .args .from) (s .args .start) (s .args .end) (s .pre .1 .1) _ (last k) (t .take-out .ensures) (may-grow e) (d .add-reserved-region-to-lists .ensures) _ (c .granted .ensures)
 
 pub grow-tail-spec : {M : Type 1} → statement M
 grow-tail-spec =
@@ -77,7 +96,9 @@ grow-tail-spec =
     refused-requires
     same-length
     returns
-    last-chunk-requires
+    count-requires
+    sub-last
+    chunk-at-requires
     take-out-requires
     add-reserved-region-to-lists-requires
     granted-requires

@@ -8,11 +8,11 @@ use Rattle.replay_ranges.proofs.answer_line.Tie as tie
 find-requires : tie.Need-find-requires
 find-requires c κs = search needs
 
-slice-aggregate-read-numbers : tie.Need-slice-aggregate-read-numbers
-slice-aggregate-read-numbers c = search needs
+slice-aggregate-read-words : tie.Need-slice-aggregate-read-words
+slice-aggregate-read-words c = search needs
 
-read-numbers-requires : tie.Need-read-numbers-requires
-read-numbers-requires c κs = search needs
+read-words-requires : tie.Need-read-words-requires
+read-words-requires c κs = search needs
 
 slice-aggregate-answer : tie.Need-slice-aggregate-answer
 slice-aggregate-answer c = simp length-take (omega arith)
@@ -28,8 +28,8 @@ answer-line-spec =
     tie.close
     (tie.spec
     find-requires
-    slice-aggregate-read-numbers
-    read-numbers-requires
+    slice-aggregate-read-words
+    read-words-requires
     slice-aggregate-answer
     answer-requires
     returns)

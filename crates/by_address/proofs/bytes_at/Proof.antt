@@ -1,0 +1,58 @@
+-- `bytes_at`: 2, or the frames that the bytes need from the address on.
+use mathlib.Core.Path.{sym}
+use Rattle.model.specs.Store.{load}
+use Rattle.taking.proofs.Taken.{does-refuse}
+use Rattle.rules.proofs.Going.{does-as}
+use Rattle.by_address.proofs.Asked.{address-over, address-bytes-over, address-bytes-on}
+use borrow.Author.Needs.{needs}
+use Rattle.by_address.proofs.bytes_at.Statement.{statement}
+use Rattle.by_address.proofs.bytes_at.Tie as tie
+
+refused-requires : tie.Need-refused-requires
+refused-requires c κs = search needs
+
+returns : tie.Need-returns
+returns c =
+    let s = c .before .before .before in
+    does-refuse (s .args .a) (s .args .words .now) (s .pre) 2 _ (c .refused .ensures) _ (address-over _ _ _ (c .before .if1 .taken))
+
+refused-requires-2 : tie.Need-refused-requires-2
+refused-requires-2 c κs = search needs
+
+returns-2 : tie.Need-returns-2
+returns-2 c =
+    let s = c .before .before .before .before in
+    does-refuse (s .args .a) (s .args .words .now) (s .pre) 2 _ (c .refused2 .ensures) _ (address-bytes-over _ _ _ (c .before .before .if1 .left) (c .before .if2 .taken))
+
+add-frames-of : tie.Need-add-frames-of
+add-frames-of c = search needs
+
+frames-of-requires : tie.Need-frames-of-requires
+frames-of-requires c κs = search needs
+
+frames-at-requires : tie.Need-frames-at-requires
+frames-at-requires c κs = search needs
+
+same-length : tie.Need-same-length
+same-length c = search needs
+
+returns-3 : tie.Need-returns-3
+returns-3 c =
+    let k = c .before .before in
+    let f = k .before .before in
+    let s = f .before .before .before .before in
+    does-as (sym (address-bytes-on (s .args .address) (s .args .num-bytes) (load (s .args .a) (s .args .words .now)) (f .before .before .if1 .left) (f .before .if2 .left) (f .frames-of .result) (f .frames-of .ensures))) (k .frames-at .ensures)
+
+pub bytes-at-spec : {M : Type 1} → statement M
+bytes-at-spec =
+    tie.close
+    (tie.spec
+    refused-requires
+    returns
+    refused-requires-2
+    returns-2
+    add-frames-of
+    frames-of-requires
+    frames-at-requires
+    same-length
+    returns-3)

@@ -1,0 +1,69 @@
+// Requests by count on a record that keeps the rules: so many general frames, wherever they are. Document 01, "How a request is met".
+ghost use mathlib.Core.Path.{_≡_};
+ghost use Prim.Native.Nat.{_+_, _≤_, _<_};
+ghost use Rattle.memory_structs.specs.Range.{addressLimit, frameSize};
+ghost use Rattle.model.specs.Lists.{at};
+ghost use Rattle.model.specs.Requests.{byCount, byBytes, fromPlace, framesOf, largeEnough};
+ghost use Rattle.model.specs.Store.{load};
+ghost use Rattle.tables.specs.Words.{placeOf};
+ghost use Rattle.rules.specs.Check.{Ruled, Does};
+use lists::WhichList;
+use memory_structs::ADDRESS_LIMIT;
+use memory_structs::FRAME_SIZE;
+use model::Called;
+use model::FrameAllocator;
+use tables::Found;
+
+// "Count: early form takes the first slot that is large enough, sorted form the highest chunk; the grant is that chunk's beginning."
+pub fn count_frames(a: FrameAllocator, words: &mut [u64], num_frames: u64) -> Called
+    requires { ⌜ Ruled a (now words) ⌝ }
+    ensures { λ r. ⌜ Does (byCount «num_frames» (load a (now (words .entry)))) (now (words .entry)) r (now (words .exit)) ⌝ }
+{
+    if num_frames == 0 {
+        return rules::refused(a, 1);
+    }
+    match find_any_chunk(a, words, num_frames) {
+        Found::Nowhere => rules::refused(a, 14),
+        Found::At(i) => take_beginning(a, words, i, num_frames),
+    }
+}
+
+// "Bytes: add to the bytes the remainder of the address by 4096 (0 where no address is named), divide by 4096, round up."
+pub fn count_bytes(a: FrameAllocator, words: &mut [u64], num_bytes: u64) -> Called
+    requires { ⌜ Ruled a (now words) ⌝ }
+    ensures { λ r. ⌜ Does (byBytes «num_bytes» (load a (now (words .entry)))) (now (words .entry)) r (now (words .exit)) ⌝ }
+{
+    if ADDRESS_LIMIT < num_bytes {
+        return rules::refused(a, 2);
+    }
+    count_frames(a, words, frames_of(num_bytes))
+}
+
+// The general chunk that a request for n frames is taken from.
+fn find_any_chunk(a: FrameAllocator, words: &[u64], n: u64) -> Found
+    requires { ⌜ Ruled a (now words) ⌝ }
+    ensures { λ r. ⌜ placeOf r ≡ largeEnough (a .sorted) n (load a (now (words .entry)) .generalFree) ⌝ }
+{
+    let list = lists::list_of(a, WhichList::GeneralFree);
+    lists::find_large(list, &words[0..1024], n)
+}
+
+// The first n frames of the general chunk at i.
+fn take_beginning(a: FrameAllocator, words: &mut [u64], i: usize, n: u64) -> Called
+    requires { ⌜ Ruled a (now words) ⌝ }
+    requires { ⌜ 0 < n ⌝ }
+    requires { ⌜ largeEnough (a .sorted) n (load a (now words) .generalFree) ≡ at i ⌝ }
+    ensures { λ r. ⌜ Does (fromPlace (load a (now (words .entry))) n (at i)) (now (words .entry)) r (now (words .exit)) ⌝ }
+{
+    let chosen = taking::chunk_at(a, words, WhichList::GeneralFree, i);
+    let end = chosen.start + (n - 1);
+    taking::take(a, words, WhichList::GeneralFree, chosen, chosen.start, end)
+}
+
+// "divide by 4096, round up"
+pub fn frames_of(num_bytes: u64) -> u64
+    requires { ⌜ «num_bytes» ≤ addressLimit + frameSize ⌝ }
+    ensures { λ r. ⌜ r ≡ framesOf «num_bytes» ⌝ }
+{
+    (num_bytes + (FRAME_SIZE - 1)) / FRAME_SIZE
+}

@@ -1,0 +1,4 @@
+pub mod Stack
+pub mod Put
+pub mod Steps
+pub mod Walk

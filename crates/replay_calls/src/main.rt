@@ -1,0 +1,83 @@
+// Replays the calls of a fixed list on one record and one workspace, which live through the whole text. A line of standard input is
+//
+//   fresh              begins again: a fresh record, and a workspace of 4,096 words, each 1
+//   boot AREAS         boots; an area is its first and last frame and its kind, `general` or `reserved`
+//   boot_bytes AREAS   boots; an area is its address, its bytes and its kind
+//   sort               sorts
+//   count N            requests N frames
+//   count_bytes N      requests N bytes
+//   at S N             requests N frames from frame S on
+//   at_bytes A N       requests N bytes from address A on
+//   general_at S N     requests N general frames from frame S on
+//   lists              calls nothing, and shows the record
+//
+// Two words may stand before a boot, a sort or a request:
+//
+//   short              calls with a workspace of 4,095 words
+//   broken_slot        calls with a copy of the record that breaks a rule: a slot is used and has no frame
+//
+// A line of standard output is what the call answers, `done`, `granted` and the range, or `refused` and the number; the form and the
+// four lists; or `(bad)`. The file `stdout` holds what document 01 and the Rust answer; oracle/README.md says how it was made.
+mod calls;
+mod reading;
+
+ghost use Prim.Native.Nat.{_≤_};
+ghost use lib.ListN.{length};
+use model::FrameAllocator;
+use reading::Way;
+
+// Reads up to 262,144 bytes of text.
+fn main() {
+    let mut text = [0; 262144];
+    let n = io::read_full(0, &mut text);
+    // Room for 40 areas, so that 33 reserved ones or 33 pieces fit.
+    let mut numbers = [0; 120];
+    let mut words = [1; 4096];
+    replay(&text[..n], &mut words, &mut numbers);
+}
+
+// Answers each line of the text; the last may lack its line end.
+fn replay(text: &[u8], words: &mut [u64], numbers: &mut [u64])
+    requires { ⌜ 4096 ≤ length (now words) ⌝ }
+{
+    let mut a = lists::fresh();
+    let mut at = 0;
+    while at < text.len() {
+        let end = bytes::scan::find(text, at, text.len(), b'\n');
+        a = answer_line(a, words, &text[at..end], numbers);
+        at = end + 1;
+    }
+}
+
+// Answers the line, and hands back the record after it.
+fn answer_line(
+    a: FrameAllocator,
+    words: &mut [u64],
+    line: &[u8],
+    numbers: &mut [u64],
+) -> FrameAllocator
+    requires { ⌜ 4096 ≤ length (now words) ⌝ }
+{
+    let first_end = bytes::scan::find(line, 0, line.len(), b' ');
+    let way = reading::way_of(&line[..first_end]);
+    let from = reading::call_start(way, first_end, line.len());
+    answer_call(a, words, way, &line[from..], numbers)
+}
+
+fn answer_call(
+    a: FrameAllocator,
+    words: &mut [u64],
+    way: Way,
+    line: &[u8],
+    numbers: &mut [u64],
+) -> FrameAllocator
+    requires { ⌜ 4096 ≤ length (now words) ⌝ }
+{
+    let name_end = bytes::scan::find(line, 0, line.len(), b' ');
+    let name = &line[..name_end];
+    let read = lines::read_words(line, name_end, reading::layout_of(name), numbers);
+    let len = read.len;
+    let numbers = &numbers[..len];
+    let asked = reading::asked_by(name, read, numbers);
+    calls::answer(a, words, way, asked, numbers)
+}
