@@ -5,10 +5,14 @@ use mathlib.Core.Path.{_≡_, refl, sym, ap, subst, _∙_}
 use mathlib.Core.List.{List, [], _∷_, _++_, map, map-append}
 use lib.ListN.{length, getD, take}
 use lib.Seq.{take-suc, take-all}
-use Rattle.areas.specs.Areas.{Collects, Adds}
+use Rattle.memory_structs.specs.declared.range.FrameRange.{FrameRange}
+use Rattle.model.specs.Boot.{allPieces}
+use Rattle.carving.specs.Ranges.{listed, Appended}
+use Rattle.carving.specs.declared.RangeList.{RangeList}
+use Rattle.areas.specs.Areas.{extents, piecesIn, Collects, Adds}
 use Rattle.areas.specs.declared.BootArea.{BootArea}
 use Rattle.areas.specs.declared.Collected.{Collected}
-use Rattle.areas.proofs.Steps.{collected}
+use Rattle.areas.proofs.Steps.{collected, carved}
 
 -- T is the areas' struct, `taken` turns one into the area that boot takes, and `none` stands past the end
 module _ {T : Type 0} (taken : T → BootArea) (none : T) (ys : List T) where
@@ -24,3 +28,19 @@ module _ {T : Type 0} (taken : T → BootArea) (none : T) (ys : List T) where
 
   pub collects-all : (i : ℕ) (c : Collected) → length ys ≤ i → Collects (map taken (take i ys)) c → Collects (map taken ys) c
   collects-all i c h k = subst (λ (xs : List BootArea). Collects xs c) (all-done i h) k
+
+  -- what is carved of the areas before i
+  abbrev pub Carves : List FrameRange → ℕ → RangeList → Type 0
+  Carves rs i l = l ≡ listed (piecesIn rs (map taken (take i ys)))
+
+  pub carves-none : (rs : List FrameRange) (l : RangeList) → l ≡ listed [] → Carves rs 0 l
+  unfolding extents allPieces
+  carves-none rs l e = e
+
+  pub carves-next : (rs : List FrameRange) (i : ℕ) (a : BootArea) (l m : RangeList) → i < length ys → Carves rs i l → a ≡ taken (getD ys i none) → Appended l (piecesIn rs (a ∷ [])) m → Carves rs (i + 1) m
+  carves-next rs i a l m h k e s =
+      carved rs (map taken (take i ys)) (taken (getD ys i none)) l m k (subst (λ (x : BootArea). Appended l (piecesIn rs (x ∷ [])) m) e s)
+      ∙ sym (ap (λ (xs : List BootArea). listed (piecesIn rs xs)) (one-more i h))
+
+  pub carves-all : (rs : List FrameRange) (i : ℕ) (l : RangeList) → length ys ≤ i → Carves rs i l → l ≡ listed (piecesIn rs (map taken ys))
+  carves-all rs i l h k = k ∙ ap (λ (xs : List BootArea). listed (piecesIn rs xs)) (all-done i h)

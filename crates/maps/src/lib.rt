@@ -1,38 +1,18 @@
 // A boot map as a slice of area structs: document 01, "Areas come as a lent list of start, end and kind". A thin walk over the slice
 // copies the reserved areas and hands each general one to the core that the word form has too (`areas`).
-ghost use mathlib.Core.Path.{_≡_};
-ghost use Prim.Native.Nat.{_<_};
-ghost use lib.ListN.{length, getD};
-ghost use Rattle.maps.specs.Maps as spec;
-ghost use Rattle.areas.specs.Areas.{Collects};
+ghost use mathlib.Core.List.{[], _∷_};
+ghost use Rattle.areas.specs.Areas.{piecesIn};
+ghost use Rattle.carving.specs.Ranges.{rangesIn, Carvable, Appended};
 use areas::BootArea;
-use areas::Collected;
-use model::Area;
+use carving::RangeList;
 
-// The reserved areas, and what 4 and 2 look at.
-pub fn collect(areas: &[Area]) -> Collected
-    ensures { λ r. ⌜ Collects (spec.bootAreas (now (areas .entry))) r ⌝ }
-{
-    let mut c = areas::nothing_collected();
-    let mut i = 0;
-    while i < areas.len() {
-        c = areas::collect_area(c, area_at(areas, i));
-        i += 1;
-    }
-    c
-}
+pub mod byte_map;
+pub mod frame_map;
 
-// The area at i, as boot takes it.
-pub fn area_at(areas: &[Area], i: usize) -> BootArea
-    requires { ⌜ i < length (now areas) ⌝ }
-    ensures { λ r. ⌜ r ≡ spec.bootArea (getD (now (areas .entry)) i spec.noArea) ⌝ }
+// A walk by hand hands the reserved areas over by value; the core is lent them.
+fn carve_area(area: BootArea, reserved: RangeList, pieces: RangeList) -> RangeList
+    requires { ⌜ Carvable reserved ⌝ }
+    ensures { λ r. ⌜ Appended pieces (piecesIn (rangesIn reserved) (area ∷ [])) r ⌝ }
 {
-    boot_area(areas[i])
-}
-
-fn boot_area(area: Area) -> BootArea
-    ensures { λ r. ⌜ r ≡ spec.bootArea area ⌝ }
-{
-    let kind = area.kind;
-    areas::area_in_frames(area.start, area.end, kind)
+    areas::carve_area(area, &reserved.starts, &reserved.ends, reserved.len, pieces)
 }

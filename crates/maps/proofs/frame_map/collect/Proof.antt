@@ -58,18 +58,18 @@ use Rattle.areas.proofs.nothing_collected as begin
 use Rattle.areas.proofs.nothing_collected.Symbol as begin-def
 use Rattle.areas.proofs.nothing_collected.Symbol.{name as #begin}
 use Rattle.areas.proofs.nothing_collected.Met as begin-thm
-use Rattle.maps.proofs.area_at as read
-use Rattle.maps.proofs.area_at.Symbol as read-def
-use Rattle.maps.proofs.area_at.Symbol.{name as #read}
-use Rattle.maps.proofs.area_at.Met as read-thm
+use Rattle.maps.proofs.frame_map.area_at as read
+use Rattle.maps.proofs.frame_map.area_at.Symbol as read-def
+use Rattle.maps.proofs.frame_map.area_at.Symbol.{name as #read}
+use Rattle.maps.proofs.frame_map.area_at.Met as read-thm
 use Rattle.areas.proofs.collect_area as step
 use Rattle.areas.proofs.collect_area.Symbol as step-def
 use Rattle.areas.proofs.collect_area.Symbol.{name as #step}
 use Rattle.areas.proofs.collect_area.Met as step-thm
-use Rattle.maps.proofs.collect.Key.{name as #this}
-use Rattle.maps.proofs.collect as this
-use Rattle.maps.proofs.collect.Statement as stated
-use Rattle.maps.proofs.collect.Code as code
+use Rattle.maps.proofs.frame_map.collect.Key.{name as #this}
+use Rattle.maps.proofs.frame_map.collect as this
+use Rattle.maps.proofs.frame_map.collect.Statement as stated
+use Rattle.maps.proofs.frame_map.collect.Code as code
 
 abbrev R : RattleType
 R = T.the-row
@@ -278,5 +278,5 @@ collect-spec 𝓤 H 𝓜 𝓖 𝓡 =
     (tables 𝓤 H 𝓜 𝓡 code.env .C) (tables 𝓤 H 𝓜 𝓡 code.env .Λ) #this code.function (code.unfolded 𝓤 H 𝓜 𝓡)
     (meets 𝓤 H (𝓖 .A) (givenOf 𝓤 H 𝓜 𝓖) (𝓜 .mem) (𝓡 .run) (tablesOf 𝓤 H 𝓜 (tables 𝓤 H 𝓜 𝓡 code.env))
     (cited 𝓤 H (Begin 𝓤 H (𝓖 .A) (𝓜 .mem) (𝓡 .run)) 𝓜 𝓡 code.env #begin begin-def.routine code.calls-areas·nothing-collected (begin-thm.met 𝓤 H 𝓜 𝓖 𝓡))
-    (cited 𝓤 H (Read 𝓤 H (𝓖 .A) (𝓜 .mem) (𝓡 .run)) 𝓜 𝓡 code.env #read read-def.routine code.calls-maps·area-at (read-thm.met 𝓤 H 𝓜 𝓖 𝓡))
+    (cited 𝓤 H (Read 𝓤 H (𝓖 .A) (𝓜 .mem) (𝓡 .run)) 𝓜 𝓡 code.env #read read-def.routine code.calls-maps·frame-map·area-at (read-thm.met 𝓤 H 𝓜 𝓖 𝓡))
     (cited 𝓤 H (Step 𝓤 H (𝓖 .A) (𝓜 .mem) (𝓡 .run)) 𝓜 𝓡 code.env #step step-def.routine code.calls-areas·collect-area (step-thm.met 𝓤 H 𝓜 𝓖 𝓡)))

@@ -39,26 +39,26 @@ use denote.Triple.Table.{entered, cited}
 use denote.Triple.Walked.{says, needs, Stays, stay-none, stay-none-slice, walkOf, goes-none, goes-none-slice, Walks, ends-at, walked, walk-meets}
 use denote.Exit.{yes}
 use denote.Signature.{plain}
-use Rattle.model.specs.declared.Area.{Area}
+use Rattle.model.specs.declared.ByteArea.{ByteArea}
 use Rattle.areas.specs.declared.BootArea.{BootArea}
-use Rattle.maps.specs.Maps.{bootArea, noArea}
-use Rattle.model.proofs.Area as T
-use Rattle.model.proofs.Area.Laws as T′
+use Rattle.maps.specs.Maps.{bootByteArea, noByteArea}
+use Rattle.model.proofs.ByteArea as T
+use Rattle.model.proofs.ByteArea.Laws as T′
 use Rattle.areas.proofs.BootArea as B
 use Rattle.areas.proofs.BootArea.Laws as B′
-use Rattle.maps.proofs.boot_area as core
-use Rattle.maps.proofs.boot_area.Symbol as core-def
-use Rattle.maps.proofs.boot_area.Symbol.{name as #core}
-use Rattle.maps.proofs.boot_area.Met as core-thm
-use Rattle.maps.proofs.area_at.Key.{name as #this}
-use Rattle.maps.proofs.area_at as this
-use Rattle.maps.proofs.area_at.Statement as stated
-use Rattle.maps.proofs.area_at.Code as code
+use Rattle.maps.proofs.byte_map.boot_area as core
+use Rattle.maps.proofs.byte_map.boot_area.Symbol as core-def
+use Rattle.maps.proofs.byte_map.boot_area.Symbol.{name as #core}
+use Rattle.maps.proofs.byte_map.boot_area.Met as core-thm
+use Rattle.maps.proofs.byte_map.area_at.Key.{name as #this}
+use Rattle.maps.proofs.byte_map.area_at as this
+use Rattle.maps.proofs.byte_map.area_at.Statement as stated
+use Rattle.maps.proofs.byte_map.area_at.Code as code
 
 abbrev R : RattleType
 R = T.the-row
 
-abbrev of-area : Area → Val
+abbrev of-area : ByteArea → Val
 of-area = LL.val T.the-type T′.the-laws
 
 abbrev stayed : Stays (this.ended .signature .params) (this.ended .kept)
@@ -68,21 +68,21 @@ module _ {M : Type 1} (𝓤 : URA M) (H : Heap 𝓤) (A : Atoms 𝓤) (mem : Mem
   abbrev Core : Contract 𝓤
   Core = tripleOf 𝓤 H A core.signature (core.spec 𝓤 H A mem run)
 
-  core-of : (x : Area) (r : BootArea) → ent 𝓤 (ensured 𝓤 H A core.ended (core.clauses 𝓤 H A mem run) tt (x, tt) tt r) (fact 𝓤 (r ≡ bootArea x))
-  core-of x r = exE 𝓤 _ (λ ws. snd∗ 𝓤 (sem 𝓤 H A (lasts core.ended tt (x, tt) ws)) (fact 𝓤 (r ≡ bootArea x)))
+  core-of : (x : ByteArea) (r : BootArea) → ent 𝓤 (ensured 𝓤 H A core.ended (core.clauses 𝓤 H A mem run) tt (x, tt) tt r) (fact 𝓤 (r ≡ bootByteArea x))
+  core-of x r = exE 𝓤 _ (λ ws. snd∗ 𝓤 (sem 𝓤 H A (lasts core.ended tt (x, tt) ws)) (fact 𝓤 (r ≡ bootByteArea x)))
 
-module _ {M : Type 1} (𝓤 : URA M) (H : Heap 𝓤) (A : Atoms 𝓤) (W : Given 𝓤 H A) (mem : Memory → SProp 𝓤) (run : Routine → Fun 𝓤) (κ : Lft) (q : Share) (b o : ℕ) (γ : GName) (ys : List Area) (i : ℕ) (i-fits : i < 2 ^ 64) where
-  abbrev x : RefT (List Area)
+module _ {M : Type 1} (𝓤 : URA M) (H : Heap 𝓤) (A : Atoms 𝓤) (W : Given 𝓤 H A) (mem : Memory → SProp 𝓤) (run : Routine → Fun 𝓤) (κ : Lft) (q : Share) (b o : ℕ) (γ : GName) (ys : List ByteArea) (i : ℕ) (i-fits : i < 2 ^ 64) where
+  abbrev x : RefT (List ByteArea)
   x = record { ptr = (b, o); name = γ; now = ys }
 
   abbrev s : Val
   s = sliceVal (b, o) (length ys)
 
-  abbrev elem : Area
-  elem = getD ys i noArea
+  abbrev elem : ByteArea
+  elem = getD ys i noByteArea
 
   abbrev Arg : Type 0
-  Arg = RefT (List Area) × (ℕ × Unit {0})
+  Arg = RefT (List ByteArea) × (ℕ × Unit {0})
 
   abbrev a : Arg
   a = (x, (i, tt))
@@ -102,7 +102,7 @@ module _ {M : Type 1} (𝓤 : URA M) (H : Heap 𝓤) (A : Atoms 𝓤) (W : Given
   goes : ent 𝓤 (sem 𝓤 H A (R .own elem (of-area elem ∷ []))) (Core 𝓤 H A mem run .pre to-core)
   goes = qed W (‵ (R .own elem (of-area elem ∷ [])) ∷ []) ∵ nothing ! $ move ! (1 ∷ 0 ∷ []) $ fjoin ! $ nothing ! $ join ! $ frame ! $ done !
 
-  exits : (r : BootArea) (w : Val) → r ≡ bootArea elem → ent 𝓤 (⋆ 𝓤 H A (‵ (flft κ q) ∷ ‵ Own ∷ ‵ (B.the-row .own r (w ∷ [])) ∷ [])) (Post w)
+  exits : (r : BootArea) (w : Val) → r ≡ bootByteArea elem → ent 𝓤 (⋆ 𝓤 H A (‵ (flft κ q) ∷ ‵ Own ∷ ‵ (B.the-row .own r (w ∷ [])) ∷ [])) (Post w)
   exits r w e =
       qed W (‵ (flft κ q) ∷ ‵ Own ∷ ‵ (B.the-row .own r (w ∷ [])) ∷ []) ∵
       suffices ! _ (ends-at 𝓤 H A this.ended stayed (this.clauses 𝓤 H A mem run) W (((κ, tt), (q, tt), tt, a, vals), tt) w r (tt, (tt, tt)) (tt, (tt, tt))) $ says ! e $
@@ -120,19 +120,19 @@ module _ {M : Type 1} (𝓤 : URA M) (H : Heap 𝓤) (A : Atoms 𝓤) (W : Given
         assigns ! (bin ! (load ! (from ! (stop !)) (look ! 6 refl)) (lit ! tt) (record { fits = scaled })) (from ! (stop !)) (init ! 4 refl (tt, record { fits = scaled })) $
         assigns ! (bin ! (load ! (from ! (fld ! refl (stop !))) (look-in ! 8 (sub ! 0 refl (whole !)))) (load ! (from ! (stop !)) (look ! 4 refl)) tt) (from ! (stop !)) (init ! 2 refl (tt, tt)) $
         rewrite ! 2 (λ (p : ℕ). ‵ (fat fullShare tyPtr l₄ 0 (vptr b p))) (sym (place-is 24 o i)) refl $
-        -- a `&[Area]` is Copy: one copy of what it owns is kept for the exit, and of the other the fractured borrow is looked into
+        -- a `&[ByteArea]` is Copy: one copy of what it owns is kept for the exit, and of the other the fractured borrow is looked into
         move ! (13 ∷ []) $ fsplit ! $ use1 W (‵ Own ⊛ ‵ Own) (shr-slice-copy 𝓤 H A W (named 0) κ R .twice x (s ∷ [])) $ split ! $
         fsplit ! $ drop ! $ fsplit ! $ drop ! $ move ! (15 ∷ []) $ split ! $ move ! (2 ∷ 0 ∷ []) $
         looks-slice ! tt R (Is R) (shows 𝓤 H A R) (LL.vals T.the-type T′.the-laws) (LL.tells T.the-type T′.the-laws) (LL.copy T.the-type T′.the-copy 𝓤 H A W) ys b o (λ q′.
-        elem-out ! R (Is R) (shows 𝓤 H A R) (LL.vals T.the-type T′.the-laws) (LL.tells T.the-type T′.the-laws) q′ ys i noArea b o l (λ g.
+        elem-out ! R (Is R) (shows 𝓤 H A R) (LL.vals T.the-type T′.the-laws) (LL.tells T.the-type T′.the-laws) q′ ys i noByteArea b o l (λ g.
         -- [the element's cell; what it owns; the others; what shuts; the fractured borrow; true; what areas owns; i's and total's; _6; …]
         assigns ! (of-opd ! (load ! (from ! (hop ! (look ! 10 refl) (stop !))) (look-raw ! 0 refl))) (from ! (stop !)) (init ! 8 refl (LL.lawful T.the-type T′.the-laws 𝓤 H A W .typed elem _ g .0)) $
-        elem-back ! R q′ ys i noArea (of-area elem ∷ []) b o l $ shuts-slice ! tt R q′ ys b o $
+        elem-back ! R q′ ys i noByteArea (of-area elem ∷ []) b o l $ shuts-slice ! tt R q′ ys b o $
         -- [the token; the fractured borrow; true; what areas owns; i's and total's; _6; …]
         owned ! R (Is R) (LL.makes T.the-type T′.the-plain 𝓤 H A) elem _ g $ use1 W (raw (Core 𝓤 H A mem run .pre to-core)) goes $
         calls-at ! fm (Core 𝓤 H A mem run) known to-core (and-then ! (load ! (from ! (stop !)) (look ! 6 refl)) (no-more !)) (λ w.
         use1 W (later (some (λ (r : BootArea). (‵ ftrue ⊛ ‵ (B.the-row .own r (w ∷ []))) ⊛ raw (ensured 𝓤 H A core.ended (core.clauses 𝓤 H A mem run) tt (elem, tt) tt r)))) (id⊢ 𝓤 _) $ await ! tt $ pick ! (λ r.
-        split ! $ move ! (1 ∷ []) $ use1 W (raw (fact 𝓤 (r ≡ bootArea elem))) (core-of 𝓤 H A mem run elem r) $ heard ! (r ≡ bootArea elem) (λ e. split ! $ drop ! $
+        split ! $ move ! (1 ∷ []) $ use1 W (raw (fact 𝓤 (r ≡ bootByteArea elem))) (core-of 𝓤 H A mem run elem r) $ heard ! (r ≡ bootByteArea elem) (λ e. split ! $ drop ! $
         peeks ! B.the-row (Is B.the-row) (shows 𝓤 H A B.the-row) r (w ∷ []) (λ is.
         land ! (from ! (stop !)) (init ! 16 refl (LL.lawful B.the-type B′.the-laws 𝓤 H A W .typed r _ is .0)) $
         returns ! (look ! 16 refl) $ forget ! 6 refl $ forget ! 8 refl $ forget ! 10 refl $ forget ! 12 refl $ forget ! 14 refl $ forget ! 16 refl $
@@ -158,4 +158,4 @@ area-at-spec 𝓤 H 𝓜 𝓖 𝓡 =
     entered 𝓤 H (tripleOf 𝓤 H (𝓖 .A) this.signature (this.spec 𝓤 H (𝓖 .A) (𝓜 .mem) (𝓡 .run)))
     (tables 𝓤 H 𝓜 𝓡 code.env .C) (tables 𝓤 H 𝓜 𝓡 code.env .Λ) #this code.function (code.unfolded 𝓤 H 𝓜 𝓡)
     (this-meets 𝓤 H (𝓖 .A) (givenOf 𝓤 H 𝓜 𝓖) (𝓜 .mem) (𝓡 .run) (tablesOf 𝓤 H 𝓜 (tables 𝓤 H 𝓜 𝓡 code.env))
-    (cited 𝓤 H (Core 𝓤 H (𝓖 .A) (𝓜 .mem) (𝓡 .run)) 𝓜 𝓡 code.env #core core-def.routine code.calls-maps·boot-area (core-thm.met 𝓤 H 𝓜 𝓖 𝓡)))
+    (cited 𝓤 H (Core 𝓤 H (𝓖 .A) (𝓜 .mem) (𝓡 .run)) 𝓜 𝓡 code.env #core core-def.routine code.calls-maps·byte-map·boot-area (core-thm.met 𝓤 H 𝓜 𝓖 𝓡)))
