@@ -15,6 +15,8 @@ use Rattle.model.specs.Boot.{booted}
 use Rattle.model.specs.Requests.{Result, refused, counted, withoutFrames}
 use Rattle.model.specs.Store.{load, recordOf}
 use Rattle.model.specs.Calls.{Call, bootCall, bootBytesCall, Gives, answer, boot, noEntries, shortBuffer}
+use Rattle.model.specs.declared.Area.{Area}
+use Rattle.model.specs.declared.ByteArea.{ByteArea}
 use Rattle.model.specs.declared.Called.{Called}
 use Rattle.model.specs.declared.FrameAllocator.{FrameAllocator}
 use Rattle.model.proofs.Boots.{bytes-below}
@@ -28,8 +30,8 @@ use Rattle.areas.specs.declared.AreaUnit.{AreaUnit}
 use Rattle.areas.specs.declared.AreaUnit.the-variants.{Frames, Bytes}
 use Rattle.areas.specs.declared.BootArea.{BootArea}
 use Rattle.carving.specs.Ranges.{rangesIn}
-use Rattle.areas.specs.Areas.{areasIn, byteAreasIn, read, extents, anyOutside}
-use Rattle.areas.proofs.Read.{frames-read, bytes-read}
+use Rattle.areas.specs.Areas.{areasIn, byteAreasIn, bootAreas, bootByteAreas, read, extents, anyOutside}
+use Rattle.areas.proofs.Read.{frames-taken, bytes-taken, words-frames, words-bytes}
 use Rattle.boot.specs.declared.Survey.{Survey}
 use Rattle.boot.specs.Boots.{refusalOf, finished, mayBoot, bootedFrom, bootedWith, Surveys}
 use Rattle.boot.proofs.Numbers.{Bounded, survey-boots}
@@ -122,15 +124,36 @@ module _ (c : Call) (xs : List BootArea) (is : IsBoot c xs) (a : FrameAllocator)
       go true p = subst (λ (x : Called). Gives c a ws x ws) (sym (survey-boots xs s h a)) (gives-booted (sym (eqb-true (mayBoot a ws) 0 p)))
       go false p = gives-first (mayBoot a ws) refl (eqb-false (mayBoot a ws) 0 p)
 
--- a boot of words is a boot of what is read of them
-pub frames-boot : (ws : List ℕ) → IsBoot (bootCall (areasIn ws)) (read Frames ws)
+-- a boot of areas, in frames and in bytes
+pub frames-boot : (areas : List Area) → IsBoot (bootCall areas) (bootAreas areas)
 unfolding answer shortBuffer model.bootRefusal
-frames-boot ws = record { answers = λ l. sym (λ i. boot (model.refusal (frames-read ws .outside-is i) (frames-read ws .extents-are i)) (frames-read ws .extents-are i) l); no-buffer = refl }
+frames-boot areas =
+    let t = frames-taken areas in
+    record { answers = λ l. sym (λ i. boot (model.refusal (t .outside-is i) (t .extents-are i)) (t .extents-are i) l); no-buffer = refl }
 
-pub bytes-boot : (ws : List ℕ) → IsBoot (bootBytesCall (byteAreasIn ws)) (read Bytes ws)
+pub bytes-boot : (areas : List ByteArea) → IsBoot (bootBytesCall areas) (bootByteAreas areas)
 unfolding answer shortBuffer model.byteRefusal
-bytes-boot ws = record { answers = λ l. sym (λ i. boot (model.refusal (bytes-read ws .outside-is i) (bytes-read ws .extents-are i)) (bytes-read ws .extents-are i) l); no-buffer = refl }
+bytes-boot areas =
+    let t = bytes-taken areas in
+    record { answers = λ l. sym (λ i. boot (model.refusal (t .outside-is i) (t .extents-are i)) (t .extents-are i) l); no-buffer = refl }
 
-pub read-bounded : (u : AreaUnit) (ws : List ℕ) → Bounded (read u ws)
-read-bounded Frames ws e = ap (λ (xs : List model.Extent). anyOf aboveTop (model.ranges xs)) (frames-read ws .extents-are) ∙ sym (frames-read ws .outside-is) ∙ e
-read-bounded Bytes ws e = ap (λ (xs : List model.Extent). anyOf aboveTop (model.ranges xs)) (bytes-read ws .extents-are) ∙ bytes-below (byteAreasIn ws) (sym (bytes-read ws .outside-is) ∙ e)
+pub frames-bounded : (areas : List Area) → Bounded (bootAreas areas)
+frames-bounded areas e =
+    let t = frames-taken areas in
+    ap (λ (xs : List model.Extent). anyOf aboveTop (model.ranges xs)) (t .extents-are) ∙ sym (t .outside-is) ∙ e
+
+pub bytes-bounded : (areas : List ByteArea) → Bounded (bootByteAreas areas)
+bytes-bounded areas e =
+    let t = bytes-taken areas in
+    ap (λ (xs : List model.Extent). anyOf aboveTop (model.ranges xs)) (t .extents-are) ∙ bytes-below areas (sym (t .outside-is) ∙ e)
+
+-- of words: of what is read of them
+pub frame-words-boot : (ws : List ℕ) → IsBoot (bootCall (areasIn ws)) (read Frames ws)
+frame-words-boot ws = subst (IsBoot (bootCall (areasIn ws))) (sym (words-frames ws)) (frames-boot (areasIn ws))
+
+pub byte-words-boot : (ws : List ℕ) → IsBoot (bootBytesCall (byteAreasIn ws)) (read Bytes ws)
+byte-words-boot ws = subst (IsBoot (bootBytesCall (byteAreasIn ws))) (sym (words-bytes ws)) (bytes-boot (byteAreasIn ws))
+
+pub words-bounded : (u : AreaUnit) (ws : List ℕ) → Bounded (read u ws)
+words-bounded Frames ws = subst (λ (xs : List BootArea). Bounded xs) (sym (words-frames ws)) (frames-bounded (areasIn ws))
+words-bounded Bytes ws = subst (λ (xs : List BootArea). Bounded xs) (sym (words-bytes ws)) (bytes-bounded (byteAreasIn ws))

@@ -2,9 +2,9 @@
 ghost use mathlib.Core.Path.{_≡_};
 ghost use Prim.Native.Nat.{_<_};
 ghost use lib.ListN.{length, getD};
-ghost use Rattle.areas.specs.Areas.{Collects, piecesIn};
+ghost use Rattle.areas.specs.Areas.{Collects, bootByteArea, bootByteAreas, piecesIn};
 ghost use Rattle.carving.specs.Ranges.{listed, rangesIn, Carvable};
-ghost use Rattle.maps.specs.Maps as spec;
+ghost use Rattle.maps.specs.Maps.{noByteArea};
 use crate::carve_area;
 use areas::BootArea;
 use areas::Collected;
@@ -13,7 +13,7 @@ use model::ByteArea;
 
 // The reserved areas, and what 4 and 2 look at.
 pub fn collect(areas: &[ByteArea]) -> Collected
-    ensures { λ r. ⌜ Collects (spec.bootByteAreas (now (areas .entry))) r ⌝ }
+    ensures { λ r. ⌜ Collects (bootByteAreas (now (areas .entry))) r ⌝ }
 {
     let mut c = areas::nothing_collected();
     let mut i = 0;
@@ -27,7 +27,7 @@ pub fn collect(areas: &[ByteArea]) -> Collected
 // The pieces of the general areas, in the given order.
 pub fn carve(areas: &[ByteArea], reserved: RangeList) -> RangeList
     requires { ⌜ Carvable reserved ⌝ }
-    ensures { λ r. ⌜ r ≡ listed (piecesIn (rangesIn reserved) (spec.bootByteAreas (now (areas .entry)))) ⌝ }
+    ensures { λ r. ⌜ r ≡ listed (piecesIn (rangesIn reserved) (bootByteAreas (now (areas .entry)))) ⌝ }
 {
     let mut pieces = carving::no_ranges();
     let mut i = 0;
@@ -41,13 +41,13 @@ pub fn carve(areas: &[ByteArea], reserved: RangeList) -> RangeList
 // The area at i, as boot takes it.
 fn area_at(areas: &[ByteArea], i: usize) -> BootArea
     requires { ⌜ i < length (now areas) ⌝ }
-    ensures { λ r. ⌜ r ≡ spec.bootByteArea (getD (now (areas .entry)) i spec.noByteArea) ⌝ }
+    ensures { λ r. ⌜ r ≡ bootByteArea (getD (now (areas .entry)) i noByteArea) ⌝ }
 {
     boot_area(areas[i])
 }
 
 fn boot_area(area: ByteArea) -> BootArea
-    ensures { λ r. ⌜ r ≡ spec.bootByteArea area ⌝ }
+    ensures { λ r. ⌜ r ≡ bootByteArea area ⌝ }
 {
     let kind = area.kind;
     areas::area_in_bytes(area.address, area.bytes, kind)

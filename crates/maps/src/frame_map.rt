@@ -2,9 +2,9 @@
 ghost use mathlib.Core.Path.{_≡_};
 ghost use Prim.Native.Nat.{_<_};
 ghost use lib.ListN.{length, getD};
-ghost use Rattle.areas.specs.Areas.{Collects, piecesIn};
+ghost use Rattle.areas.specs.Areas.{Collects, bootArea, bootAreas, piecesIn};
 ghost use Rattle.carving.specs.Ranges.{listed, rangesIn, Carvable};
-ghost use Rattle.maps.specs.Maps as spec;
+ghost use Rattle.maps.specs.Maps.{noArea};
 use crate::carve_area;
 use areas::BootArea;
 use areas::Collected;
@@ -13,7 +13,7 @@ use model::Area;
 
 // The reserved areas, and what 4 and 2 look at.
 pub fn collect(areas: &[Area]) -> Collected
-    ensures { λ r. ⌜ Collects (spec.bootAreas (now (areas .entry))) r ⌝ }
+    ensures { λ r. ⌜ Collects (bootAreas (now (areas .entry))) r ⌝ }
 {
     let mut c = areas::nothing_collected();
     let mut i = 0;
@@ -27,7 +27,7 @@ pub fn collect(areas: &[Area]) -> Collected
 // The pieces of the general areas, in the given order.
 pub fn carve(areas: &[Area], reserved: RangeList) -> RangeList
     requires { ⌜ Carvable reserved ⌝ }
-    ensures { λ r. ⌜ r ≡ listed (piecesIn (rangesIn reserved) (spec.bootAreas (now (areas .entry)))) ⌝ }
+    ensures { λ r. ⌜ r ≡ listed (piecesIn (rangesIn reserved) (bootAreas (now (areas .entry)))) ⌝ }
 {
     let mut pieces = carving::no_ranges();
     let mut i = 0;
@@ -41,13 +41,13 @@ pub fn carve(areas: &[Area], reserved: RangeList) -> RangeList
 // The area at i, as boot takes it.
 fn area_at(areas: &[Area], i: usize) -> BootArea
     requires { ⌜ i < length (now areas) ⌝ }
-    ensures { λ r. ⌜ r ≡ spec.bootArea (getD (now (areas .entry)) i spec.noArea) ⌝ }
+    ensures { λ r. ⌜ r ≡ bootArea (getD (now (areas .entry)) i noArea) ⌝ }
 {
     boot_area(areas[i])
 }
 
 fn boot_area(area: Area) -> BootArea
-    ensures { λ r. ⌜ r ≡ spec.bootArea area ⌝ }
+    ensures { λ r. ⌜ r ≡ bootArea area ⌝ }
 {
     let kind = area.kind;
     areas::area_in_frames(area.start, area.end, kind)

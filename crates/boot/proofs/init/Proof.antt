@@ -2,7 +2,7 @@
 use Rattle.areas.specs.declared.AreaUnit.the-variants.{Frames}
 use Rattle.areas.specs.Areas.{read}
 use Rattle.boot.proofs.Numbers.{survey-ready}
-use Rattle.boot.proofs.Given.{frames-boot, surveyed-gives}
+use Rattle.boot.proofs.Given.{frame-words-boot, surveyed-gives}
 use borrow.Author.Needs.{needs}
 use Rattle.boot.proofs.init.Statement.{statement}
 use Rattle.boot.proofs.init.Tie as tie
@@ -17,7 +17,7 @@ returns : tie.Need-returns
 returns c =
     let k = c .before in
     let s = k .before .before .before in
-    surveyed-gives _ (read Frames (s .args .areas .now)) (frames-boot (s .args .areas .now)) (s .args .a) (s .args .words .now) (k .survey-words .result) (k .survey-words .ensures) (c .boot-surveyed .result) (c .boot-surveyed .ensures)
+    surveyed-gives _ (read Frames (s .args .areas .now)) (frame-words-boot (s .args .areas .now)) (s .args .a) (s .args .words .now) (k .survey-words .result) (k .survey-words .ensures) (c .boot-surveyed .result) (c .boot-surveyed .ensures)
 
 pub init-spec : {M : Type 1} → statement M
 init-spec = tie.close (tie.spec survey-words-requires boot-surveyed-requires returns)

@@ -7,7 +7,7 @@ use Rattle.carving.specs.Ranges.{listed, rangesIn}
 use Rattle.areas.specs.Areas.{read, piecesIn}
 use Rattle.boot.specs.Boots.{Surveys}
 use Rattle.boot.proofs.Numbers.{may-carve, surveyed}
-use Rattle.boot.proofs.Given.{read-bounded}
+use Rattle.boot.proofs.Given.{words-bounded}
 use borrow.Author.Needs.{needs}
 use Rattle.boot.proofs.survey_words.Statement.{statement}
 use Rattle.boot.proofs.survey_words.Tie as tie
@@ -18,7 +18,7 @@ collect-requires c κs = search needs
 carvable-requires : tie.Need-carvable-requires
 carvable-requires c κs =
     let s = c .before .before in
-    λ z. may-carve (read (s .args .unit) (s .args .areas .now)) (c .collect .result) (c .collect .ensures) z (read-bounded (s .args .unit) (s .args .areas .now))
+    λ z. may-carve (read (s .args .unit) (s .args .areas .now)) (c .collect .result) (c .collect .ensures) z (words-bounded (s .args .unit) (s .args .areas .now))
 
 carve-requires : tie.Need-carve-requires
 carve-requires c κs = c .carvable .ensures .carvable

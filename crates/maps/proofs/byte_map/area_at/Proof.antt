@@ -41,7 +41,8 @@ use denote.Exit.{yes}
 use denote.Signature.{plain}
 use Rattle.model.specs.declared.ByteArea.{ByteArea}
 use Rattle.areas.specs.declared.BootArea.{BootArea}
-use Rattle.maps.specs.Maps.{bootByteArea, noByteArea}
+use Rattle.areas.specs.Areas.{bootByteArea}
+use Rattle.maps.specs.Maps.{noByteArea}
 use Rattle.model.proofs.ByteArea as T
 use Rattle.model.proofs.ByteArea.Laws as T′
 use Rattle.areas.proofs.BootArea as B

@@ -46,9 +46,9 @@ use denote.Signature.{plain}
 use Rattle.model.specs.declared.ByteArea.{ByteArea}
 use Rattle.carving.specs.Ranges.{listed, rangesIn, Carvable, Appended}
 use Rattle.carving.specs.declared.RangeList.{RangeList}
-use Rattle.areas.specs.Areas.{piecesIn}
+use Rattle.areas.specs.Areas.{piecesIn, bootByteArea, bootByteAreas}
 use Rattle.areas.specs.declared.BootArea.{BootArea}
-use Rattle.maps.specs.Maps.{bootByteArea, bootByteAreas, noByteArea}
+use Rattle.maps.specs.Maps.{noByteArea}
 use Rattle.maps.proofs.Turns.{Carves, carves-none, carves-next, carves-all}
 use Rattle.model.proofs.ByteArea as T
 use Rattle.areas.proofs.BootArea as B

@@ -44,10 +44,10 @@ use denote.Triple.Walked.{says, Stays, stay-none-slice, walkOf, goes-none-slice,
 use denote.Exit.{yes}
 use denote.Signature.{plain}
 use Rattle.model.specs.declared.ByteArea.{ByteArea}
-use Rattle.areas.specs.Areas.{Collects, Adds}
+use Rattle.areas.specs.Areas.{Collects, Adds, bootByteArea, bootByteAreas}
 use Rattle.areas.specs.declared.BootArea.{BootArea}
 use Rattle.areas.specs.declared.Collected.{Collected}
-use Rattle.maps.specs.Maps.{bootByteArea, bootByteAreas, noByteArea}
+use Rattle.maps.specs.Maps.{noByteArea}
 use Rattle.maps.proofs.Turns.{collects-next, collects-all}
 use Rattle.model.proofs.ByteArea as T
 use Rattle.areas.proofs.BootArea as B

@@ -41,7 +41,8 @@ use denote.Exit.{yes}
 use denote.Signature.{plain}
 use Rattle.model.specs.declared.Area.{Area}
 use Rattle.areas.specs.declared.BootArea.{BootArea}
-use Rattle.maps.specs.Maps.{bootArea, noArea}
+use Rattle.areas.specs.Areas.{bootArea}
+use Rattle.maps.specs.Maps.{noArea}
 use Rattle.model.proofs.Area as T
 use Rattle.model.proofs.Area.Laws as T′
 use Rattle.areas.proofs.BootArea as B

@@ -46,9 +46,9 @@ use denote.Signature.{plain}
 use Rattle.model.specs.declared.Area.{Area}
 use Rattle.carving.specs.Ranges.{listed, rangesIn, Carvable, Appended}
 use Rattle.carving.specs.declared.RangeList.{RangeList}
-use Rattle.areas.specs.Areas.{piecesIn}
+use Rattle.areas.specs.Areas.{piecesIn, bootArea, bootAreas}
 use Rattle.areas.specs.declared.BootArea.{BootArea}
-use Rattle.maps.specs.Maps.{bootArea, bootAreas, noArea}
+use Rattle.maps.specs.Maps.{noArea}
 use Rattle.maps.proofs.Turns.{Carves, carves-none, carves-next, carves-all}
 use Rattle.model.proofs.Area as T
 use Rattle.areas.proofs.BootArea as B

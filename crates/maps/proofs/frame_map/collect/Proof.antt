@@ -44,10 +44,10 @@ use denote.Triple.Walked.{says, Stays, stay-none-slice, walkOf, goes-none-slice,
 use denote.Exit.{yes}
 use denote.Signature.{plain}
 use Rattle.model.specs.declared.Area.{Area}
-use Rattle.areas.specs.Areas.{Collects, Adds}
+use Rattle.areas.specs.Areas.{Collects, Adds, bootArea, bootAreas}
 use Rattle.areas.specs.declared.BootArea.{BootArea}
 use Rattle.areas.specs.declared.Collected.{Collected}
-use Rattle.maps.specs.Maps.{bootArea, bootAreas, noArea}
+use Rattle.maps.specs.Maps.{noArea}
 use Rattle.maps.proofs.Turns.{collects-next, collects-all}
 use Rattle.model.proofs.Area as T
 use Rattle.areas.proofs.BootArea as B
