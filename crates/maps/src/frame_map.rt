@@ -3,16 +3,27 @@ ghost use mathlib.Core.Path.{_≡_};
 ghost use Prim.Native.Nat.{_<_};
 ghost use lib.ListN.{length, getD};
 ghost use Rattle.areas.specs.Areas.{Collects, bootArea, bootAreas, piecesIn};
+ghost use Rattle.boot.specs.Boots.{Surveys};
 ghost use Rattle.carving.specs.Ranges.{listed, rangesIn, Carvable};
 ghost use Rattle.maps.specs.Maps.{noArea};
 use crate::carve_area;
 use areas::BootArea;
 use areas::Collected;
+use boot::Survey;
 use carving::RangeList;
 use model::Area;
 
+// What a boot needs of these areas.
+pub fn survey(areas: &[Area]) -> Survey
+    ensures { λ r. ⌜ Surveys (bootAreas (now (areas .entry))) r ⌝ }
+{
+    let collected = collect(areas);
+    let pieces = carve(areas, boot::carvable(collected));
+    Survey { collected, pieces }
+}
+
 // The reserved areas, and what 4 and 2 look at.
-pub fn collect(areas: &[Area]) -> Collected
+fn collect(areas: &[Area]) -> Collected
     ensures { λ r. ⌜ Collects (bootAreas (now (areas .entry))) r ⌝ }
 {
     let mut c = areas::nothing_collected();
@@ -25,7 +36,7 @@ pub fn collect(areas: &[Area]) -> Collected
 }
 
 // The pieces of the general areas, in the given order.
-pub fn carve(areas: &[Area], reserved: RangeList) -> RangeList
+fn carve(areas: &[Area], reserved: RangeList) -> RangeList
     requires { ⌜ Carvable reserved ⌝ }
     ensures { λ r. ⌜ r ≡ listed (piecesIn (rangesIn reserved) (bootAreas (now (areas .entry)))) ⌝ }
 {
