@@ -1,10 +1,32 @@
 // The public face: every call of document 01. A call that changes the record changes it in place; a question reads it.
-ghost use Rattle.model.specs.Calls.{sortCall, Gives};
+ghost use Rattle.model.specs.Calls.{bootCall, bootBytesCall, sortCall, Gives};
 ghost use Rattle.requests.specs.Asked.{callOf};
 ghost use Rattle.frame_allocator.specs.InPlace.{changed};
 use model::Answer;
+use model::Area;
+use model::ByteArea;
 use model::FrameAllocator;
 use requests::Request;
+
+// Boots from areas given as first frame, last frame and kind. The workspace is tested where the record is sorted, and never written.
+pub fn init(a: &mut FrameAllocator, areas: &[Area], words: &[u64]) -> Answer
+    ensures { λ r. ⌜ Gives (bootCall (now (areas .entry))) (now (a .entry)) (now (words .entry)) (changed r (now (a .exit))) (now (words .entry)) ⌝ }
+{
+    let survey = maps::frame_map::survey(areas);
+    let called = boot::boot_surveyed(*a, survey, words);
+    *a = called.allocator;
+    called.answer
+}
+
+// Boots from areas given as address, size in bytes and kind.
+pub fn init_from_bytes(a: &mut FrameAllocator, areas: &[ByteArea], words: &[u64]) -> Answer
+    ensures { λ r. ⌜ Gives (bootBytesCall (now (areas .entry))) (now (a .entry)) (now (words .entry)) (changed r (now (a .exit))) (now (words .entry)) ⌝ }
+{
+    let survey = maps::byte_map::survey(areas);
+    let called = boot::boot_surveyed(*a, survey, words);
+    *a = called.allocator;
+    called.answer
+}
 
 // A request: document 01, "How a request is met".
 pub fn allocate(a: &mut FrameAllocator, words: &mut [u64], request: Request) -> Answer
