@@ -8,7 +8,7 @@ use lib.ListN.{length}
 use lib.Dec.{ltb}
 use Rattle.memory_structs.proofs.Bools.{if-cases}
 use Rattle.memory_structs.specs.declared.range.FrameRange.{FrameRange}
-use Rattle.model.specs.Lists.{Slot, entries, bound, insert, insertSorted, remove, removeOne}
+use Rattle.model.specs.Lists.{Slot, entries, bound, insert, insertSorted, remove, removeOne, replaceAt}
 use Rattle.model.specs.Rules.{slotted}
 use Rattle.model.specs.Store.{wordsIn}
 use Rattle.model.specs.Store as store
@@ -118,6 +118,13 @@ inserted-slots false r s a = early-length r s ∙ a
 
 pub inserted-slotted : (b : Bool) (r : FrameRange) (s : List Slot) → slotted b s ≡ true → slotted b (insert b r s) ≡ true
 inserted-slotted b r s e = is-slotted b (insert b r s) (inserted-slots b r s (slotted-is b s e))
+
+-- an entry rewritten where it stands
+pub replaced-used : (i : ℕ) (r : FrameRange) {s : List Slot} → AllUsed s → AllUsed (replaceAt i r s)
+unfolding replaceAt
+replaced-used i r none = none
+replaced-used zero r (one u) = one u
+replaced-used (suc i) r (one u) = one (replaced-used i r u)
 
 -- a list after a removal, and after an insert
 module _ (l : OneList) (before : List ℕ) (t : IsList l before) {r : OneList} {after : List ℕ} where

@@ -17,6 +17,7 @@ use Rattle.model.specs.declared.FrameAllocator.{FrameAllocator}
 use Rattle.model.proofs.Lawful.{Lawful}
 use Rattle.model.proofs.Ruled.{rules-lawful}
 use Rattle.model.proofs.Whole.{storables, words-count, words-twice, tested, record-kept, words-kept}
+use Rattle.model.proofs.Lasting.{answer-lawful}
 use Rattle.model.proofs.Carried.{Stands, passes}
 use Rattle.rules.specs.Check.{checked, Ruled, Does}
 use Rattle.rules.proofs.Numbers.{gives-stored}
@@ -60,6 +61,13 @@ stored-stands l ws h w a after p q =
 -- in code: what a call that goes on does is what it gives
 pub gives-does : (c : Call) (a : FrameAllocator) (ws : List ℕ) → shortBuffer c ≡ false → checked a ws ≡ 0 → (called : Called) (after : List ℕ) → Does (answer c (load a ws)) ws called after → Gives c a ws called after
 gives-does c a ws e z called after d = gives-stored c a ws e z called after (d .answers) (d .records) (d .words)
+
+-- and it keeps the rules: the next call may go on without the test
+pub call-keeps : (c : Call) (a : FrameAllocator) (ws : List ℕ) → Ruled a ws → {called : Called} {after : List ℕ} → Does (answer c (load a ws)) ws called after → Ruled (called .allocator) after
+call-keeps c a ws u {called = called} {after = after} d =
+    let l = answer c (load a ws) .lists in
+    stands-ruled l (called .allocator) after
+    (stored-stands l ws (u .long) (answer-lawful c (load a ws) (ruled-stands a ws u .lawful)) (called .allocator) after (d .records) (d .words))
 
 -- another name for what is done
 pub does-as : {r o : Result} {ws after : List ℕ} {called : Called} → r ≡ o → Does o ws called after → Does r ws called after
