@@ -8,13 +8,14 @@ use lib.ListN.{length}
 use lib.Dec.{ltb}
 use Rattle.memory_structs.proofs.Bools.{if-cases}
 use Rattle.memory_structs.specs.declared.range.FrameRange.{FrameRange}
-use Rattle.model.specs.Lists.{Slot, unused, used, entries, bound, insert, insertSorted, remove, removeOne, replaceAt}
+use Rattle.model.specs.Lists.{Slot, entries, bound, insert, insertSorted, remove, removeOne, replaceAt}
 use Rattle.model.specs.Rules.{slotted}
 use Rattle.model.specs.Store.{wordsIn}
 use Rattle.model.specs.Store as store
 use Rattle.model.proofs.Cover.{early-length, remove-length}
 use Rattle.model.proofs.Lawful.{Slots, sorted-rising, remove-rising}
 use Rattle.model.proofs.Ruled.{slotted-is, is-slotted}
+use Rattle.model.proofs.Plainly.{fewer-entries}
 use Rattle.model.proofs.Stored.{AllUsed, none, one, Storable, early, sorted, part-length, slots-again, stored-test, test-kept}
 use Rattle.model.proofs.Whole.{used-count}
 use Rattle.lists.specs.declared.OneList.{OneList}
@@ -35,15 +36,9 @@ module _ (l : OneList) (ws : List ℕ) (t : IsList l ws) where
       }
 
 -- no list has more entries than a table
-few-used : (s : List Slot) → length (entries s) ≤ length s
-unfolding entries
-few-used [] = omega arith
-few-used (unused ∷ s) = omega (arith, few-used s)
-few-used (used r ∷ s) = omega (arith, few-used s)
-
 pub few-entries : {b : Bool} {s : List Slot} → Storable b s → length (entries s) ≤ 512
-few-entries {s = s} (early h) = omega (arith, few-used s)
-few-entries {s = s} (sorted u h) = omega (arith, few-used s)
+few-entries {s = s} (early h) = omega (arith, fewer-entries s)
+few-entries {s = s} (sorted u h) = omega (arith, fewer-entries s)
 
 -- what is stored later stands instead of what was stored before
 over : (b : Bool) (s t : List Slot) (w : List ℕ) → wordsIn b t (wordsIn b s w) ≡ wordsIn b t w
