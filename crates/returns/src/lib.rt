@@ -71,6 +71,6 @@ fn give_to(a: FrameAllocator, words: &mut [u64], which: WhichList, start: u64, e
     if !given.placed {
         return rules::refused(a, 18);
     }
-    let list = given.list;
-    rules::accepted(lists::with_list(a, which, list), 0)
+    let after = given.list;
+    rules::accepted(lists::with_list(a, which, after), 0)
 }
