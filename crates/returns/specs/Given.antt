@@ -13,7 +13,7 @@ use Rattle.lists.specs.Record.{slotsAt, withSlots}
 abbrev pub anyFree : FrameRange → Lists → Bool
 anyFree r l = anyOf (meets r) (entries (l .generalFree)) || anyOf (meets r) (entries (l .reservedFree))
 
--- one of the two free lists. 18: "after the call a list would hold more than 32 (early) or 512 (sorted) entries"; else the return.
+-- a return to one of the two free lists: 18 where "after the call a list would hold more than 32 (early) or 512 (sorted) entries".
 -- `general-given` and `reserved-given` (proofs/Giving) say that this is the model's `giveGeneral` and `giveReserved`.
 unfoldable pub givenTo : WhichList → FrameRange → Lists → Result
 givenTo w r l =

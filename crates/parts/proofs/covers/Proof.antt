@@ -38,7 +38,7 @@ covers-requires c κs =
     let l = c .before .list-of .ensures in
     let w = stores (s .args .a) (s .args .words .now) (s .pre .0) in (
       lent-list (s .args .a) (s .args .words .now) (s .pre .0 .long) w (s .args .which) p l,
-      (lent-tidy (s .args .a) (s .args .words .now) (s .pre .0 .long) w (s .args .which) p l (ruled (s .args .a) (s .args .words .now) (s .pre .0)), s .pre .1),
+      (lent-tidy (s .args .a) (s .args .words .now) (s .pre .0 .long) w (s .args .which) p l (ruled (s .args .a) (s .args .words .now) (s .pre .0)), omega (arith, s .pre .1)),
     )
 
 returns : tie.Need-returns
