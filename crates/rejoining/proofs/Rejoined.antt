@@ -21,7 +21,6 @@ use Rattle.lists.specs.declared.OneList.{OneList}
 use Rattle.lists.specs.One.{IsList, slotsIn, Stored}
 use Rattle.lists.proofs.One.{as-table, at-sorted, length-replaced, sorted-after}
 use Rattle.lists.proofs.Again.{list-stored, replaced-used}
-use Rattle.rejoining.specs.declared.GivenBack.{GivenBack}
 use Rattle.rejoining.specs.Rejoins.{afterReturn, GoesBack}
 
 -- a pair that a search answers is one of the table's

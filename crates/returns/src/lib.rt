@@ -12,7 +12,7 @@ use memory_structs::FrameRange;
 use model::Called;
 use model::FrameAllocator;
 
-// The frames of the range are free again; each of them is held until then.
+// The frames of the range go back to the free list of their kind.
 pub fn return_frames(a: FrameAllocator, words: &mut [u64], range: FrameRange) -> Called
     ensures { λ r. ⌜ Gives (returnCall range) a (now (words .entry)) r (now (words .exit)) ⌝ }
 {
