@@ -1,7 +1,8 @@
 // The public face: every call of document 01. A call that changes the record changes it in place; a question reads it.
-ghost use Rattle.model.specs.Calls.{bootCall, bootBytesCall, sortCall, Gives};
+ghost use Rattle.model.specs.Calls.{bootCall, bootBytesCall, sortCall, returnCall, Gives};
 ghost use Rattle.requests.specs.Asked.{callOf};
 ghost use Rattle.frame_allocator.specs.InPlace.{changed};
+use memory_structs::FrameRange;
 use model::Answer;
 use model::Area;
 use model::ByteArea;
@@ -42,6 +43,15 @@ pub fn convert_frame_allocator_to_heap_based(a: &mut FrameAllocator, words: &mut
     ensures { λ r. ⌜ Gives sortCall (now (a .entry)) (now (words .entry)) (changed r (now (a .exit))) (now (words .exit)) ⌝ }
 {
     let called = sort::convert_frame_allocator_to_heap_based(*a, words);
+    *a = called.allocator;
+    called.answer
+}
+
+// A return: the frames of the range are free again.
+pub fn return_frames(a: &mut FrameAllocator, words: &mut [u64], range: FrameRange) -> Answer
+    ensures { λ r. ⌜ Gives (returnCall range) (now (a .entry)) (now (words .entry)) (changed r (now (a .exit))) (now (words .exit)) ⌝ }
+{
+    let called = returns::return_frames(*a, words, range);
     *a = called.allocator;
     called.answer
 }

@@ -77,7 +77,7 @@ pub fn allocate(a: FrameAllocator, words: &mut [u64], request: Request) -> Calle
     meet_request(a, words, request)
 }
 
-// On a record that keeps the rules, which it keeps: the next call may go on without the test (proofs/Kept).
+// On a record that keeps the rules, which it keeps: the next call may go on without the test (`call-keeps`, rules/proofs/Going).
 pub fn meet_request(a: FrameAllocator, words: &mut [u64], request: Request) -> Called
     requires { ⌜ Ruled a (now words) ⌝ }
     ensures { λ r. ⌜ Does (answer (callOf request) (load a (now (words .entry)))) (now (words .entry)) r (now (words .exit)) ⌝ }
