@@ -11,11 +11,13 @@ use Rattle.memory_structs.specs.Choice.{if_then_else_}
 use Rattle.memory_structs.specs.Range.{range, covers, top}
 use Rattle.model.specs.Lists.{Lists, Slot, unused, used, entries, anyOf, bound, times}
 use Rattle.model.specs.Rules.{Each}
+use Rattle.model.specs.Requests.{counted}
+use Rattle.model.specs.Returns.{sort}
 use Rattle.model.specs.Queries.{isHeld, begins, atRegions, aboveChunks, heldStarts, Run, HeldList, pairs, written, HeldWritten}
 use Rattle.memory_structs.proofs.Bools.{if-cases, both, both-first, both-second}
 use Rattle.memory_structs.proofs.Bounds.{same-ends}
 use Rattle.memory_structs.proofs.Cover.{cov, cov-in, cov-below, cov-above, cov-cases, covers-low, covers-high, covers-between}
-use Rattle.model.proofs.Cover.{tally, times-tally}
+use Rattle.model.proofs.Cover.{tally, times-tally, sorted-any}
 use Rattle.model.proofs.Lawful.{AllSound, Lawful}
 use Rattle.model.proofs.Trace.{bit}
 use Rattle.memory_structs.specs.declared.range.FrameRange.{FrameRange}
@@ -514,3 +516,34 @@ pub held-written : {l : Lists} (a : Lawful l) (before : List ℕ) → HeldWritte
 held-written a before =
     let s = held-list a in
     record { list = s .list; number = sym (s .number); held = s .held; words = refl }
+
+-- ---- lists that hold the same frames have the same held lists
+
+module _ (l m : Lists) (e : (f : ℕ) → isHeld l f ≡ isHeld m f) where
+  run-same : {r : FrameRange} → Run l r → Run m r
+  run-same {r} u = record {
+    filled = u .filled;
+    held = λ f c. sym (e f) ∙ u .held f c;
+    below = λ f c. sym (e f) ∙ u .below f c;
+    above = sym (e (r .end + 1)) ∙ u .above;
+  }
+
+  runs-same : (rs : List FrameRange) → Each (Run l) rs → Each (Run m) rs
+  unfolding Each
+  runs-same [] u = tt
+  runs-same (r ∷ rs) u = (run-same (u .0), runs-same rs (u .1))
+
+  pub written-same : {n : ℕ} {before after : List ℕ} → HeldWritten l n before after → HeldWritten m n before after
+  written-same w = record {
+    list = w .list;
+    number = w .number;
+    held = record { runs = runs-same (w .list) (w .held .runs); once = λ f. w .held .once f ∙ ap bit (e f) };
+    words = w .words;
+  }
+
+-- so have lists that are sorted
+pub sort-holds : (l : Lists) (f : ℕ) → isHeld (sort l .lists) f ≡ isHeld l f
+unfolding sort counted isHeld
+sort-holds l f =
+    if-cases (λ (x : Lists). isHeld x f ≡ isHeld l f) (l .sorted) (λ e. refl)
+    (λ e. (λ i. sorted-any (λ r. covers r f) (entries (l .generalRegions)) i && not (sorted-any (λ r. covers r f) (entries (l .generalFree)) i)))

@@ -108,7 +108,8 @@ pub table-words-length : (s : List Slot) → length s ≤ 512 → length (tableW
 unfolding tableWords
 table-words-length s h = simp (length-append, words-length, length-replicate) (omega arith)
 
-slots-of : {s : List Slot} (z : List ℕ) → AllUsed s → tableSlots (length s) (slotWords s ++ z) ≡ s
+-- the first pairs of any words
+pub slots-of : {s : List Slot} (z : List ℕ) → AllUsed s → tableSlots (length s) (slotWords s ++ z) ≡ s
 unfolding tableSlots slotWords
 slots-of z none = refl
 slots-of z (one {r = r} u) = ap (λ (l : List Slot). used r ∷ l) (slots-of z u)
