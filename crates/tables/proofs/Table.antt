@@ -10,9 +10,11 @@ use lib.Seq.{paste, take-all, length-take-le, drop-drop, take-append-le, drop-ap
 use Rattle.memory_structs.specs.Range.{range}
 use Rattle.model.proofs.Stored.{table-length, double, words-length, words-short}
 use Rattle.model.proofs.Forms.{remove-run, replace-set}
-use Rattle.model.specs.Lists.{Slot, unused, used, remove, replaceAt}
+use Rattle.model.specs.Lists.{Slot, unused, used, insertSorted, remove, replaceAt}
 use Rattle.model.specs.Store.{tableSlots, slotWords, tableWords}
-use Rattle.tables.specs.Words.{IsTable, insertAt, pasted}
+use Rattle.tables.specs.Words.{IsTable, overWords, insertAt, pasted}
+use Rattle.memory_structs.specs.declared.range.FrameRange.{FrameRange}
+use Rattle.tables.proofs.Search.{length-inserted}
 
 pub words-append : (s t : List Slot) → slotWords (s ++ t) ≡ slotWords s ++ slotWords t
 unfolding slotWords
@@ -34,12 +36,14 @@ words-drop (suc i) [] = rw double
 words-drop (suc i) (unused ∷ s) = rw double (words-drop i s)
 words-drop (suc i) (used r ∷ s) = rw double (words-drop i s)
 
+-- the first n pairs of words are those of their slots
+words-split : (n : ℕ) (ws : List ℕ) → 2 * n ≤ length ws → ws ≡ slotWords (tableSlots n ws) ++ drop (2 * n) ws
+words-split n ws h =
+    sym (take-append-drop (2 * n) ws) ∙ ap (λ (l : List ℕ). l ++ drop (2 * n) ws) (sym (words-short n ws h))
+
 -- a table's words are those of its slots
 pub words-of : {n : ℕ} {ws : List ℕ} → IsTable n ws → ws ≡ slotWords (tableSlots n ws) ++ replicate (1024 - 2 * n) 0
-words-of {n} {ws} t =
-    sym (take-append-drop (2 * n) ws)
-    ∙ ap (λ (l : List ℕ). l ++ drop (2 * n) ws) (sym (words-short n ws (omega arith)))
-    ∙ ap (λ (l : List ℕ). slotWords (tableSlots n ws) ++ l) (t .zeros)
+words-of {n} {ws} t = words-split n ws (omega arith) ∙ ap (λ (l : List ℕ). slotWords (tableSlots n ws) ++ l) (t .zeros)
 
 pub stored : {n : ℕ} {ws : List ℕ} → IsTable n ws → tableWords (tableSlots n ws) ≡ ws
 unfolding tableWords
@@ -59,30 +63,44 @@ drop-replicate zero n = rw (sub-zero n)
 drop-replicate (suc i) zero = rw (zero-sub (suc i))
 drop-replicate (suc i) (suc n) = rw (suc-sub-suc n i) (drop-replicate i n)
 
--- the parts of a table's words
-module _ (n : ℕ) (ws : List ℕ) (t : IsTable n ws) where
+-- the parts of the pairs' words
+module _ (n : ℕ) (ws : List ℕ) (t : 2 * n ≤ length ws) where
   front : (i : ℕ) → i ≤ n → take (2 * i) ws ≡ slotWords (take i (tableSlots n ws))
   front i h =
-      ap (λ (l : List ℕ). take (2 * i) l) (words-of t)
-      ∙ take-append-le (2 * i) (slotWords (tableSlots n ws)) (replicate (1024 - 2 * n) 0) (omega (arith, words-length (tableSlots n ws), table-length n ws))
+      ap (λ (l : List ℕ). take (2 * i) l) (words-split n ws t)
+      ∙ take-append-le (2 * i) (slotWords (tableSlots n ws)) (drop (2 * n) ws) (omega (arith, words-length (tableSlots n ws), table-length n ws))
       ∙ words-take i (tableSlots n ws)
 
   back : (i : ℕ) → i ≤ n → take (2 * n - 2 * i) (drop (2 * i) ws) ≡ slotWords (drop i (tableSlots n ws))
   back i h =
-      ap (λ (l : List ℕ). take (2 * n - 2 * i) (drop (2 * i) l)) (words-of t)
-      ∙ ap (λ (l : List ℕ). take (2 * n - 2 * i) l) (drop-append-le (2 * i) (slotWords (tableSlots n ws)) (replicate (1024 - 2 * n) 0) (omega (arith, words-length (tableSlots n ws), table-length n ws)))
-      ∙ take-at (drop (2 * i) (slotWords (tableSlots n ws))) (replicate (1024 - 2 * n) 0) (2 * n - 2 * i) (omega (arith, length-drop (2 * i) (slotWords (tableSlots n ws)), words-length (tableSlots n ws), table-length n ws))
+      ap (λ (l : List ℕ). take (2 * n - 2 * i) (drop (2 * i) l)) (words-split n ws t)
+      ∙ ap (λ (l : List ℕ). take (2 * n - 2 * i) l) (drop-append-le (2 * i) (slotWords (tableSlots n ws)) (drop (2 * n) ws) (omega (arith, words-length (tableSlots n ws), table-length n ws)))
+      ∙ take-at (drop (2 * i) (slotWords (tableSlots n ws))) (drop (2 * n) ws) (2 * n - 2 * i) (omega (arith, length-drop (2 * i) (slotWords (tableSlots n ws)), words-length (tableSlots n ws), table-length n ws))
       ∙ words-drop i (tableSlots n ws)
 
-  tail : (m : ℕ) → n ≤ m → m ≤ 512 → drop (2 * m) ws ≡ replicate (1024 - 2 * m) 0
-  tail m h l =
-      let e : 2 * m ≡ 2 * n + (2 * m - 2 * n) = omega arith in
-      let f : 1024 - 2 * n - (2 * m - 2 * n) ≡ 1024 - 2 * m = omega arith in
-      ap (λ (k : ℕ). drop k ws) e
-      ∙ sym (drop-drop (2 * m - 2 * n) (2 * n) ws)
-      ∙ ap (λ (l : List ℕ). drop (2 * m - 2 * n) l) (t .zeros)
-      ∙ drop-replicate (2 * m - 2 * n) (1024 - 2 * n)
-      ∙ ap (λ (k : ℕ). replicate k 0) f
+-- what lies after m pairs, of n pairs that were written before
+drop-pairs : (n m : ℕ) (ws : List ℕ) → n ≤ m → drop (2 * m) ws ≡ drop (2 * m - 2 * n) (drop (2 * n) ws)
+drop-pairs n m ws h =
+    let e : 2 * m ≡ 2 * n + (2 * m - 2 * n) = omega arith in
+    ap (λ (k : ℕ). drop k ws) e ∙ sym (drop-drop (2 * m - 2 * n) (2 * n) ws)
+
+-- over a table, or over fewer slots
+
+pub over-table : {n : ℕ} {ws : List ℕ} → IsTable n ws → (s : List Slot) → n ≤ length s → length s ≤ 512 → overWords s ws ≡ tableWords s
+unfolding overWords tableWords
+over-table {n} {ws} t s h l =
+    let m : ℕ = length s in
+    let f : 1024 - 2 * n - (2 * m - 2 * n) ≡ 1024 - 2 * m = omega arith in
+    ap (λ (x : List ℕ). slotWords s ++ x)
+    (drop-pairs n m ws h ∙ ap (λ (x : List ℕ). drop (2 * m - 2 * n) x) (t .zeros) ∙ drop-replicate (2 * m - 2 * n) (1024 - 2 * n) ∙ ap (λ (k : ℕ). replicate k 0) f)
+
+pub over-over : (s u : List Slot) (ws : List ℕ) → length u ≤ length s → overWords s (overWords u ws) ≡ overWords s ws
+unfolding overWords
+over-over s u ws h =
+    ap (λ (x : List ℕ). slotWords s ++ x)
+    (drop-pairs (length u) (length s) (slotWords u ++ drop (2 * length u) ws) h
+    ∙ ap (λ (x : List ℕ). drop (2 * length s - 2 * length u) x) (drop-at (slotWords u) (drop (2 * length u) ws) (2 * length u) (words-length u))
+    ∙ sym (drop-pairs (length u) (length s) ws h))
 
 -- two stores at the end of what was kept
 two-sets : (j a b : ℕ) (d r : List ℕ) → j + 2 ≤ length d → set (set (take (j + 2) d ++ r) j a) (j + 1) b ≡ take j d ++ a ∷ b ∷ r
@@ -92,17 +110,23 @@ two-sets zero a b (x ∷ y ∷ d) r h = refl
 two-sets (suc j) a b (x ∷ d) r h = rw (suc-add j 2, suc-add j 1) (ap (λ (l : List ℕ). x ∷ l) (two-sets j a b d r (omega arith)))
 
 -- the words after an insert, as the loop and the two stores leave them
-pub inserted : (n i a b : ℕ) (ws : List ℕ) → IsTable n ws → i ≤ n → n < 512
-    → set (set (pasted ws (2 * i + 2) (drop (2 * i) ws) (2 * n - 2 * i)) (2 * i) a) (2 * i + 1) b ≡ tableWords (insertAt i (range a b) (tableSlots n ws))
-unfolding pasted tableWords insertAt slotWords
-inserted n i a b ws t h l =
+pub inserted : (n i a b : ℕ) (ws : List ℕ) → 2 * n + 2 ≤ length ws → i ≤ n
+    → set (set (pasted ws (2 * i + 2) (drop (2 * i) ws) (2 * n - 2 * i)) (2 * i) a) (2 * i + 1) b ≡ overWords (insertAt i (range a b) (tableSlots n ws)) ws
+unfolding pasted overWords insertAt slotWords
+inserted n i a b ws t h =
     let s : List Slot = tableSlots n ws in
     let len : length s ≡ n = table-length n ws in
-    let e : 2 * i + 2 + (2 * n - 2 * i) ≡ 2 * (n + 1) = omega arith in
-    let f : 1024 - 2 * (n + 1) ≡ 1024 - 2 * length (take i s ++ used (range a b) ∷ drop i s) = simp (length-append, length-take-le i s (omega arith), length-drop) (omega arith) in
+    let fits : 2 * n ≤ length ws = omega arith in
+    let e : 2 * i + 2 + (2 * n - 2 * i) ≡ 2 * length (take i s ++ used (range a b) ∷ drop i s) = omega (arith, length-append (take i s) (used (range a b) ∷ drop i s), length-take-le i s (omega arith), length-drop i s) in
     ap (λ (l : List ℕ). set (set l (2 * i) a) (2 * i + 1) b) (append-assoc (take (2 * i + 2) ws) (take (2 * n - 2 * i) (drop (2 * i) ws)) (drop (2 * i + 2 + (2 * n - 2 * i)) ws))
     ∙ two-sets (2 * i) a b ws (take (2 * n - 2 * i) (drop (2 * i) ws) ++ drop (2 * i + 2 + (2 * n - 2 * i)) ws) (omega arith)
-    ∙ rw (front n ws t i h, back n ws t i h, e, tail n ws t (n + 1) (omega arith) (omega arith), f, words-append (take i s) (used (range a b) ∷ drop i s), append-assoc)
+    ∙ rw (front n ws fits i h, back n ws fits i h, e, words-append (take i s) (used (range a b) ∷ drop i s), append-assoc)
+
+-- in a table
+pub table-inserted : {n : ℕ} {ws : List ℕ} → IsTable n ws → n < 512 → (r : FrameRange) → overWords (insertSorted r (tableSlots n ws)) ws ≡ tableWords (insertSorted r (tableSlots n ws))
+table-inserted {n} {ws} t h r =
+    let m : length (insertSorted r (tableSlots n ws)) ≡ n + 1 = length-inserted r (tableSlots n ws) ∙ ap (λ (k : ℕ). k + 1) (table-length n ws) in
+    over-table t (insertSorted r (tableSlots n ws)) (omega arith) (omega arith)
 
 pub removed : (n i k : ℕ) (ws : List ℕ) → IsTable n ws → i + k ≤ n
     → pasted (pasted ws (2 * i) (drop (2 * i + 2 * k) ws) (2 * n - (2 * i + 2 * k))) (2 * (n - k)) (replicate (2 * n - 2 * (n - k)) 0) (2 * n - 2 * (n - k))
@@ -112,6 +136,7 @@ removed n i k ws t h =
     rw (remove-run i k (tableSlots n ws)) (
     let s : List Slot = tableSlots n ws in
     let q : List Slot = take i s ++ drop (i + k) s in
+    let fits : 2 * n ≤ length ws = omega arith in
     let c : ℕ = 2 * n - 2 * (n - k) in
     let len : length s ≡ n = table-length n ws in
     let lq : length q ≡ n - k = simp (length-append, length-take-le i s (omega arith), length-drop) (omega arith) in
@@ -122,7 +147,7 @@ removed n i k ws t h =
     let z : c + (1024 - 2 * n) ≡ 1024 - 2 * length q = omega arith in
     let p : List ℕ = paste ws (2 * i) (drop (2 * i + 2 * k) ws) (2 * n - (2 * i + 2 * k)) in
     let once : p ≡ slotWords q ++ drop (2 * (n - k)) ws
-    = rw (e, f, front n ws t i (omega arith), back n ws t (i + k) h, words-append (take i s) (drop (i + k) s)) in
+    = rw (e, f, front n ws fits i (omega arith), back n ws fits (i + k) h, words-append (take i s) (drop (i + k) s)) in
     let rest : drop (2 * (n - k) + c) (slotWords q ++ drop (2 * (n - k)) ws) ≡ replicate (1024 - 2 * n) 0
     = sym (drop-drop c (2 * (n - k)) (slotWords q ++ drop (2 * (n - k)) ws))
     ∙ ap (λ (l : List ℕ). drop c l) (drop-at (slotWords q) (drop (2 * (n - k)) ws) (2 * (n - k)) lw)
