@@ -9,12 +9,24 @@ ghost use Rattle.model.specs.Store.{load};
 ghost use Rattle.rules.specs.Check.{Ruled};
 ghost use Rattle.sorting.specs.Ordered.{inOrder};
 ghost use Rattle.held.specs.Runs.{twoTables};
+ghost use Rattle.held_list.specs.Listed.{Listed};
 use held::write_runs;
+use model::Answer;
 use model::EarlyList;
 use model::FrameAllocator;
 
-// The runs go to the beginning of the buffer, ascending. The answer is how many there are.
-pub fn write_held(a: FrameAllocator, words: &[u64], buffer: &mut [u64]) -> usize
+// The runs go to the beginning of the buffer, and their number is the count.
+pub fn held_list(a: FrameAllocator, words: &[u64], buffer: &mut [u64]) -> Answer
+    requires { ⌜ Ruled a (now words) ⌝ }
+    requires { ⌜ 2048 ≤ length (now buffer) ⌝ }
+    ensures { λ r. ⌜ Listed (load a (now (words .entry))) (now (buffer .entry)) r (now (buffer .exit)) ⌝ }
+{
+    let runs = write_held(a, words, buffer);
+    rules::without_frames(0, runs as u64)
+}
+
+// The runs, ascending. The answer is how many there are.
+fn write_held(a: FrameAllocator, words: &[u64], buffer: &mut [u64]) -> usize
     requires { ⌜ Ruled a (now words) ⌝ }
     requires { ⌜ 2048 ≤ length (now buffer) ⌝ }
     ensures { λ r. ⌜ HeldWritten (load a (now (words .entry))) r (now (buffer .entry)) (now (buffer .exit)) ⌝ }
@@ -42,11 +54,5 @@ fn write_from_slots(regions: EarlyList, chunks: EarlyList, buffer: &mut [u64]) -
     let mut chunk_pairs = [0; 64];
     let regions_len = sorting::sort_slots(regions, &mut region_pairs);
     let chunks_len = sorting::sort_slots(chunks, &mut chunk_pairs);
-    write_runs(
-        &region_pairs,
-        regions_len,
-        &chunk_pairs,
-        chunks_len,
-        buffer,
-    )
+    write_runs(&region_pairs, regions_len, &chunk_pairs, chunks_len, buffer)
 }

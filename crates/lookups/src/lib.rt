@@ -18,13 +18,7 @@ pub fn kind(a: FrameAllocator, words: &[u64], range: FrameRange) -> Answer
     if range.is_above_top() {
         return rules::without_frames(2, 0);
     }
-    if parts::contains_any(
-        a,
-        words,
-        WhichList::ReservedRegions,
-        range.start,
-        range.end,
-    ) {
+    if parts::contains_any(a, words, WhichList::ReservedRegions, range.start, range.end) {
         return rules::without_frames(0, 1);
     }
     rules::without_frames(0, 0)
