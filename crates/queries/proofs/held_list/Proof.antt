@@ -1,4 +1,5 @@
 -- `held_list`: refused by its buffer, by 3 or 11, or answered.
+use native.Mathlib.Omega.{arith}
 use mathlib.Core.Path.{sym, _∙_}
 use Rattle.rules.proofs.Numbers.{checked-ruled}
 use Rattle.queries.proofs.Asked.{held-short, held-refused, held-going}
@@ -12,7 +13,7 @@ without-frames-requires c κs = search needs
 returns : tie.Need-returns
 returns c =
     let s = c .before .before .before .before in
-    held-short (s .args .a) (s .args .words .now) (s .args .buffer .now) (c .before .if1 .taken) (c .without-frames .ensures)
+    held-short (s .args .a) (s .args .words .now) (s .args .buffer .now) (omega arith) (c .without-frames .ensures)
 
 check-requires : tie.Need-check-requires
 check-requires c κs = search needs
@@ -24,12 +25,11 @@ returns-2 : tie.Need-returns-2
 returns-2 c =
     let k = c .before .before .before in
     let s = k .before .before .before in
-    held-refused (s .args .a) (s .args .words .now) (s .args .buffer .now) (k .if1 .left) _ (c .before .before .check .ensures) (c .before .if2 .taken) (c .without-frames2 .ensures)
+    held-refused (s .args .a) (s .args .words .now) (s .args .buffer .now) (omega arith) _ (c .before .before .check .ensures) (c .before .if2 .taken) (c .without-frames2 .ensures)
 
 held-list-requires : tie.Need-held-list-requires
 held-list-requires c κs =
-    let k = c .before .before .before in
-    (checked-ruled _ _ (sym (c .before .before .check .ensures) ∙ c .before .if2 .left), k .if1 .left)
+    (checked-ruled _ _ (sym (c .before .before .check .ensures) ∙ c .before .if2 .left), omega arith)
 
 same-length : tie.Need-same-length
 same-length c = search needs
@@ -39,7 +39,7 @@ returns-3 c =
     let g = c .before .before .before .before in
     let k = g .before .before in
     let s = k .before .before .before in
-    held-going (s .args .a) (s .args .words .now) (s .args .buffer .now) (k .if1 .left) (sym (g .before .check .ensures) ∙ g .if2 .left) (c .before .before .held-list .ensures)
+    held-going (s .args .a) (s .args .words .now) (s .args .buffer .now) (omega arith) (sym (g .before .check .ensures) ∙ g .if2 .left) (c .before .before .held-list .ensures)
 
 pub held-list-spec : {M : Type 1} → statement M
 held-list-spec =
