@@ -68,7 +68,7 @@ sorted-count r (unused ∷ s) = sorted-count r s
 sorted-count r (used x ∷ s) =
     if-cases (λ t. count t ≡ suc (suc (count s))) (ltb (r .start) (x .start)) (λ e. refl) (λ e. ap suc (sorted-count r s))
 
--- what one of the entries is, one of them is in any order
+-- whether an entry passes a test does not hang on their order
 swap-or : (x y z : Bool) → (x || (y || z)) ≡ (y || (x || z))
 swap-or true true z = refl
 swap-or true false z = refl
