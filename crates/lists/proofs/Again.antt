@@ -18,9 +18,9 @@ use Rattle.model.proofs.Ruled.{slotted-is, is-slotted}
 use Rattle.model.proofs.Plainly.{fewer-entries}
 use Rattle.model.proofs.Stored.{AllUsed, none, one, Storable, early, sorted, part-length, slots-again, stored-test, test-kept}
 use Rattle.model.proofs.Whole.{used-count}
+use Rattle.tables.proofs.Search.{length-inserted}
 use Rattle.lists.specs.declared.OneList.{OneList}
 use Rattle.lists.specs.One.{IsList, slotsIn, oneOf, Stored}
-use Rattle.lists.proofs.One.{length-inserted}
 
 -- a list stores its slots, and nothing else
 module _ (l : OneList) (ws : List ℕ) (t : IsList l ws) where

@@ -1,4 +1,4 @@
-// One of the lists of a record that keeps the rules, with its part of the words: counted, searched, and an entry put in.
+// One of the lists of a record that keeps the rules, with its part of the words: counted, added up, searched, and an entry put in.
 ghost use mathlib.Core.Path.{_≡_};
 ghost use Prim.Native.Nat.{_≤_, _<_};
 ghost use lib.ListN.{length};
@@ -17,6 +17,15 @@ pub fn count(a: FrameAllocator, words: &[u64], which: WhichList) -> usize
 {
     let from = lists::part_of(which);
     lists::count(lists::list_of(a, which), &words[from..from + 1024])
+}
+
+// How many frames its entries have.
+pub fn sum(a: FrameAllocator, words: &[u64], which: WhichList) -> u64
+    requires { ⌜ Ruled a (now words) ⌝ }
+    ensures { λ r. ⌜ r ≡ model.sum (model.entries (slotsAt which (load a (now (words .entry))))) ⌝ }
+{
+    let from = lists::part_of(which);
+    lists::sum(lists::list_of(a, which), &words[from..from + 1024])
 }
 
 // Whether an entry of the list has a frame of the range.
