@@ -6,14 +6,8 @@
 //! The bounds are added by the port: the Rust takes higher frames and addresses, and has no refusal
 //! to compare with. So the comparison never gives it these inputs.
 
-use crate::call::{Call, Range};
-
-/// The highest frame.
-pub const TOP: u64 = (1 << 28) - 1;
-/// Addresses are below this.
-pub const ADDRESS_LIMIT: u64 = 1 << 40;
-/// No call takes more bytes than this.
-pub const BYTE_LIMIT: u64 = 1 << 40;
+use super::call::Call;
+use crate::frames::{Range, ADDRESS_LIMIT, BYTE_LIMIT, TOP};
 
 /// Why document 01 refuses a call.
 #[derive(Clone, Copy)]

@@ -1,6 +1,5 @@
-//! The panics of the Rust's boot, caught and told apart.
+//! The Rust's panics, caught and told apart.
 
-use super::theirs::Reason;
 use std::cell::{Cell, RefCell};
 use std::panic::{catch_unwind, set_hook, take_hook, AssertUnwindSafe, PanicHookInfo};
 use std::sync::Once;
@@ -9,6 +8,19 @@ use std::sync::Once;
 pub struct Panic {
     line: u32,
     message: String,
+}
+
+/// Why it panicked.
+#[derive(Clone, Copy, PartialEq, Eq)]
+pub enum Reason {
+    /// A 33rd reserved area.
+    ReservedAreas,
+    /// A 33rd piece.
+    Pieces,
+    PiecesMeet,
+    PieceMeetsReserved,
+    /// Two chunks are not enough for a request.
+    TwoChunks,
 }
 
 thread_local! {
@@ -47,13 +59,17 @@ fn of(info: &PanicHookInfo) -> Panic {
 }
 
 impl Panic {
-    /// The overlap panic says so. The two lists of 32 run over at a line each.
+    /// The overlap panic and the `todo!` say so. The two lists of 32 run over at a line each.
     pub fn reason(&self) -> Reason {
         const OVERLAP: &str = "BUG: frame allocator free list had overlapping ranges";
+        const TODO: &str = "not yet implemented: Frame allocator: found chunk containing requested";
         const FULL: &str = "index out of bounds: the len is 32 but the index is 32";
         if self.message.starts_with(OVERLAP) {
             let reserved = self.message.contains("typ: Reserved");
             return if reserved { Reason::PieceMeetsReserved } else { Reason::PiecesMeet };
+        }
+        if self.message.starts_with(TODO) {
+            return Reason::TwoChunks;
         }
         if self.message == FULL && self.at("free_list[*free_list_idx] = Some(") {
             return Reason::Pieces;

@@ -1,4 +1,4 @@
-//! Boots: their areas, and how a boot is written.
+//! Boots and their areas, and how an area is written.
 
 use std::fmt;
 
@@ -48,16 +48,10 @@ impl Boot {
     }
 }
 
-/// The call's name, then two numbers in decimal and the kind for each area, parted by one space.
-impl fmt::Display for Boot {
+/// Two numbers in decimal and the kind.
+impl fmt::Display for Area {
     fn fmt(&self, f: &mut fmt::Formatter) -> fmt::Result {
-        f.write_str(match self.unit {
-            Unit::Frames => "boot",
-            Unit::Bytes => "boot_bytes",
-        })?;
-        self.areas.iter().try_for_each(|area| {
-            let kind = if area.reserved { "reserved" } else { "general" };
-            write!(f, " {} {} {kind}", area.first, area.second)
-        })
+        let kind = if self.reserved { "reserved" } else { "general" };
+        write!(f, "{} {} {kind}", self.first, self.second)
     }
 }

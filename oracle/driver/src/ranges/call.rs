@@ -1,19 +1,7 @@
 //! The ten calls, and what an answer consists of.
 
+use crate::frames::Range;
 use std::fmt;
-
-/// The frames from `start` to `end`, both included; empty where `start` is above `end`.
-#[derive(Clone, Copy, PartialEq, Eq, Hash)]
-pub struct Range {
-    pub start: u64,
-    pub end: u64,
-}
-
-impl Range {
-    pub fn is_empty(self) -> bool {
-        self.start > self.end
-    }
-}
 
 /// One call with its operands.
 #[derive(Clone, Copy, PartialEq, Eq, Hash)]

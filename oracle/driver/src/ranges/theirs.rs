@@ -1,7 +1,8 @@
 //! Their side of the range and frame calls: the Theseus crates. Only `departures.rs` asks them outside
 //! document 01's domain.
 
-use crate::call::{Answer, Call, Range};
+use super::call::{Answer, Call};
+use crate::frames::Range;
 use frame_allocator::FreeFrames;
 use memory_structs::{Frame, FrameRange, PhysicalAddress};
 

@@ -1,10 +1,8 @@
 //! Which calls are compared: small worlds whole, and random calls aimed at the corners.
 
-use crate::call::{Call, Kind, Range};
-use crate::domain::{ADDRESS_LIMIT, BYTE_LIMIT, TOP};
+use super::call::{Call, Kind};
+use crate::frames::{Range, ADDRESS_LIMIT, BYTE_LIMIT, FRAME_SIZE, TOP};
 use crate::random::Random;
-
-const FRAME_SIZE: u64 = 4096;
 
 /// The frames of each small world: the lowest ones, those around the top, and frames that lie far
 /// apart, so that ranges of nearly all frames occur.

@@ -1,6 +1,6 @@
 //! Our side of the range and frame calls: the static library of the crate `exports`.
 
-use crate::call::{Answer, Call, UNWRITTEN, WORDS};
+use super::call::{Answer, Call, UNWRITTEN, WORDS};
 
 // Each returns the number, and writes 1 or 0 and then the values from `out` on.
 #[rustfmt::skip]

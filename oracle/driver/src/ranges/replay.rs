@@ -1,11 +1,12 @@
 //! The fixed list: some hundreds of the Rust's own answers, for a program to replay.
 
-use crate::call::{Answer, Call, Kind, Range};
-use crate::domain::{self, ADDRESS_LIMIT, BYTE_LIMIT, TOP};
-use crate::generate::{random_call, small_world, WORLDS};
-use crate::outcome::Outcome;
+use super::call::{Answer, Call, Kind};
+use super::domain;
+use super::generate::{random_call, small_world, WORLDS};
+use super::outcome::Outcome;
+use super::theirs;
+use crate::frames::{Range, ADDRESS_LIMIT, BYTE_LIMIT, TOP};
 use crate::random::Random;
-use crate::theirs;
 use std::collections::HashSet;
 use std::fmt;
 use std::path::Path;

@@ -1,8 +1,8 @@
 //! What can come of each call, told apart as finely as the sources do: each branch that answers is
 //! an outcome of its own, so that a run can show that it went through all of them.
 
-use crate::call::{Answer, Call, Kind};
-use crate::domain::Refusal;
+use super::call::{Answer, Call, Kind};
+use super::domain::Refusal;
 
 #[derive(Clone, Copy, PartialEq, Eq)]
 pub enum Outcome {

@@ -1,13 +1,13 @@
 //! Compares the two sides call by call.
 
-use crate::call::{Answer, Call, Kind};
-use crate::counts::Counts;
-use crate::domain;
-use crate::generate::{random_call, small_world, WORLDS};
-use crate::ours;
-use crate::outcome::Outcome;
+use super::call::{Answer, Call, Kind};
+use super::counts::Counts;
+use super::domain;
+use super::generate::{random_call, small_world, WORLDS};
+use super::ours;
+use super::outcome::Outcome;
+use super::theirs;
 use crate::random::Random;
-use crate::theirs;
 
 /// So many differences are printed in full; the others are only counted.
 const SHOWN: u64 = 20;

@@ -1,7 +1,7 @@
 //! How often each outcome of each call occurred.
 
-use crate::call::Kind;
-use crate::outcome::{Outcome, Verdict};
+use super::call::Kind;
+use super::outcome::{Outcome, Verdict};
 
 pub struct Counts {
     counts: [[u64; Outcome::COUNT]; Kind::ALL.len()],
