@@ -3,11 +3,12 @@ ghost use Prim.Native.Nat.{_≤_};
 use lines::Layout;
 use lines::Reading;
 
-// What a call is made with: the record and the workspace as they are, a short workspace, or a broken record.
+// What a call is made with: the record and the workspace as they are, a short workspace, a broken record, or a broken workspace.
 pub enum Way {
     Plain,
     Short,
     BrokenSlot,
+    BrokenWord,
 }
 
 pub enum Asked {
@@ -36,6 +37,9 @@ pub fn way_of(word: &[u8]) -> Way {
     }
     if check::same(word, b"broken_slot") {
         return Way::BrokenSlot;
+    }
+    if check::same(word, b"broken_word") {
+        return Way::BrokenWord;
     }
     Way::Plain
 }

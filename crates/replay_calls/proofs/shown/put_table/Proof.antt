@@ -3,8 +3,8 @@ use Prim.Native.Nat.{_≤_, _-_}
 use mathlib.Core.Path.{_≡_}
 use lib.ListN.{length}
 use native.Mathlib.Omega.{arith}
-use Rattle.replays.proofs.shown.put_table.Statement.{statement}
-use Rattle.replays.proofs.shown.put_table.Tie as tie
+use Rattle.replay_calls.proofs.shown.put_table.Statement.{statement}
+use Rattle.replay_calls.proofs.shown.put_table.Tie as tie
 
 abbrev Inv-loop : tie.InvT-loop
 Inv-loop t len i₀ i = (i ≤ len) × (len ≤ 512) × (length t ≡ 1024)

@@ -1,16 +1,10 @@
-// What the programs that replay boots and calls share: records and answers written to a line, and a record that breaks a rule.
-ghost use mathlib.Core.Path.{_≡_};
-ghost use Rattle.replays.specs.Broken.{withBrokenSlot};
+// A record that breaks a rule.
 use lists::OneList;
 use lists::WhichList;
 use model::FrameAllocator;
 
-pub mod shown;
-
 // The record with a slot that is used and has no frame: the last one of the general free list.
-pub fn with_broken_slot(a: FrameAllocator) -> FrameAllocator
-    ensures { λ r. ⌜ r ≡ withBrokenSlot a ⌝ }
-{
+pub fn with_broken_slot(a: FrameAllocator) -> FrameAllocator {
     let list = lists::list_of(a, WhichList::GeneralFree);
     let mut early = list.early;
     early.starts[31] = 1;

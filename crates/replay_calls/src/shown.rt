@@ -2,7 +2,7 @@
 ghost use Prim.Native.Nat.{_≤_};
 ghost use mathlib.Core.Path.{_≡_};
 ghost use lib.ListN.{length};
-use lines::written;
+use crate::written;
 use lists::OneList;
 use lists::WhichList;
 use memory_structs::FrameRange;
