@@ -80,11 +80,7 @@ fn make(a: FrameAllocator, words: &mut [u64], call: Call, areas: &[u64]) -> Call
         Call::Boot => boot::init(a, areas, words),
         Call::BootBytes => boot::init_from_bytes(a, areas, words),
         Call::Sort => sort::convert_frame_allocator_to_heap_based(a, words),
-        Call::Count(n) => requests::allocate_frames(a, words, n),
-        Call::CountBytes(n) => requests::allocate_frames_by_bytes(a, words, n),
-        Call::At(frame, n) => requests::allocate_frames_at(a, words, frame, n),
-        Call::AtBytes(address, n) => requests::allocate_frames_by_bytes_at(a, words, address, n),
-        Call::GeneralAt(frame, n) => requests::allocate_general_frames_at(a, words, frame, n),
+        Call::Request(request) => requests::allocate(a, words, request),
     }
 }
 

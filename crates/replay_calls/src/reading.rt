@@ -2,6 +2,7 @@
 ghost use Prim.Native.Nat.{_≤_};
 use lines::Layout;
 use lines::Reading;
+use requests::Request;
 
 // What a call is made with: the record and the workspace as they are, a short workspace, a broken record, or a broken workspace.
 pub enum Way {
@@ -23,11 +24,7 @@ pub enum Call {
     Boot,
     BootBytes,
     Sort,
-    Count(u64),
-    CountBytes(u64),
-    At(u64, u64),
-    AtBytes(u64, u64),
-    GeneralAt(u64, u64),
+    Request(Request),
 }
 
 // The way that the line's first word names; a line that begins with its call is plain.
@@ -111,23 +108,23 @@ fn alone(name: &[u8]) -> Asked {
 
 fn with_one(name: &[u8], n: u64) -> Asked {
     if check::same(name, b"count") {
-        return Asked::Call(Call::Count(n));
+        return Asked::Call(Call::Request(Request::Frames(n)));
     }
     if check::same(name, b"count_bytes") {
-        return Asked::Call(Call::CountBytes(n));
+        return Asked::Call(Call::Request(Request::Bytes(n)));
     }
     Asked::Nothing
 }
 
 fn with_two(name: &[u8], from: u64, n: u64) -> Asked {
     if check::same(name, b"at") {
-        return Asked::Call(Call::At(from, n));
+        return Asked::Call(Call::Request(Request::FramesAt(from, n)));
     }
     if check::same(name, b"at_bytes") {
-        return Asked::Call(Call::AtBytes(from, n));
+        return Asked::Call(Call::Request(Request::BytesAt(from, n)));
     }
     if check::same(name, b"general_at") {
-        return Asked::Call(Call::GeneralAt(from, n));
+        return Asked::Call(Call::Request(Request::GeneralFramesAt(from, n)));
     }
     Asked::Nothing
 }

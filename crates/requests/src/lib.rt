@@ -1,29 +1,33 @@
 // Requests: by count and by address, in frames and in bytes, from all frames or from general ones only. Document 01, "How a request is
 // met" (000, `allocate_frames_deferred` and its callers).
-ghost use Rattle.model.specs.Calls.{countCall, countBytesCall, addressCall, addressBytesCall, generalCall, Gives};
+ghost use Rattle.model.specs.Calls.{countCall, countBytesCall, addressCall, addressBytesCall, generalCall, answer, Gives};
+ghost use Rattle.model.specs.Store.{load};
+ghost use Rattle.rules.specs.Check.{Ruled, Does};
+ghost use Rattle.requests.specs.Asked.{callOf};
 use model::Called;
 use model::FrameAllocator;
+
+// What is asked for: so many general frames, wherever they are, or the frames from a given one on.
+pub enum Request {
+    Frames(u64),
+    Bytes(u64),
+    FramesAt(u64, u64),
+    BytesAt(u64, u64),
+    GeneralFramesAt(u64, u64),
+}
 
 // So many general frames, wherever they are.
 pub fn allocate_frames(a: FrameAllocator, words: &mut [u64], num_frames: u64) -> Called
     ensures { λ r. ⌜ Gives (countCall «num_frames») a (now (words .entry)) r (now (words .exit)) ⌝ }
 {
-    let number = rules::check(a, words);
-    if number != 0 {
-        return rules::refused(a, number);
-    }
-    by_count::count_frames(a, words, num_frames)
+    allocate(a, words, Request::Frames(num_frames))
 }
 
 // General frames for so many bytes.
 pub fn allocate_frames_by_bytes(a: FrameAllocator, words: &mut [u64], num_bytes: u64) -> Called
     ensures { λ r. ⌜ Gives (countBytesCall «num_bytes») a (now (words .entry)) r (now (words .exit)) ⌝ }
 {
-    let number = rules::check(a, words);
-    if number != 0 {
-        return rules::refused(a, number);
-    }
-    by_count::count_bytes(a, words, num_bytes)
+    allocate(a, words, Request::Bytes(num_bytes))
 }
 
 // The frames from this one on.
@@ -35,11 +39,7 @@ pub fn allocate_frames_at(
 ) -> Called
     ensures { λ r. ⌜ Gives (addressCall frame «num_frames») a (now (words .entry)) r (now (words .exit)) ⌝ }
 {
-    let number = rules::check(a, words);
-    if number != 0 {
-        return rules::refused(a, number);
-    }
-    by_address::frames_at(a, words, frame, num_frames)
+    allocate(a, words, Request::FramesAt(frame, num_frames))
 }
 
 // The frames of so many bytes from this address on.
@@ -51,11 +51,7 @@ pub fn allocate_frames_by_bytes_at(
 ) -> Called
     ensures { λ r. ⌜ Gives (addressBytesCall address «num_bytes») a (now (words .entry)) r (now (words .exit)) ⌝ }
 {
-    let number = rules::check(a, words);
-    if number != 0 {
-        return rules::refused(a, number);
-    }
-    by_address::bytes_at(a, words, address, num_bytes)
+    allocate(a, words, Request::BytesAt(address, num_bytes))
 }
 
 // The frames from this one on, if they are general.
@@ -67,9 +63,30 @@ pub fn allocate_general_frames_at(
 ) -> Called
     ensures { λ r. ⌜ Gives (generalCall frame «num_frames») a (now (words .entry)) r (now (words .exit)) ⌝ }
 {
+    allocate(a, words, Request::GeneralFramesAt(frame, num_frames))
+}
+
+// "Order: 3, 11", then as the request is met.
+pub fn allocate(a: FrameAllocator, words: &mut [u64], request: Request) -> Called
+    ensures { λ r. ⌜ Gives (callOf request) a (now (words .entry)) r (now (words .exit)) ⌝ }
+{
     let number = rules::check(a, words);
     if number != 0 {
         return rules::refused(a, number);
     }
-    by_address::general_frames_at(a, words, frame, num_frames)
+    meet_request(a, words, request)
+}
+
+// On a record that keeps the rules, which it keeps: the next call may go on without the test (proofs/Kept).
+pub fn meet_request(a: FrameAllocator, words: &mut [u64], request: Request) -> Called
+    requires { ⌜ Ruled a (now words) ⌝ }
+    ensures { λ r. ⌜ Does (answer (callOf request) (load a (now (words .entry)))) (now (words .entry)) r (now (words .exit)) ⌝ }
+{
+    match request {
+        Request::Frames(n) => by_count::count_frames(a, words, n),
+        Request::Bytes(n) => by_count::count_bytes(a, words, n),
+        Request::FramesAt(frame, n) => by_address::frames_at(a, words, frame, n),
+        Request::BytesAt(address, n) => by_address::bytes_at(a, words, address, n),
+        Request::GeneralFramesAt(frame, n) => by_address::general_frames_at(a, words, frame, n),
+    }
 }
