@@ -2,7 +2,9 @@
 
 use crate::allocator::area::{Area, Boot};
 use crate::allocator::call::Call;
-use crate::allocator::state::*;
+use crate::allocator::state::{
+    State, GENERAL_FREE, GENERAL_REGIONS, RESERVED_FREE, RESERVED_REGIONS,
+};
 use crate::boots::generate::{byte_in_frame, in_bytes, random_boot, tiles};
 use crate::frames::{Range, ADDRESS_LIMIT, BYTE_LIMIT, FRAME_SIZE, TOP};
 use crate::random::Random;

@@ -1,5 +1,6 @@
 //! A line of the fixed list, and what answers it.
 
+use super::counts::Counts;
 use super::judge::Judgement;
 use crate::allocator::call::Call;
 use crate::allocator::record::Answer;
@@ -50,25 +51,28 @@ impl fmt::Display for Line {
     }
 }
 
-/// Answers lines one after another, on the Rust's lists.
+/// Answers lines one after another, on the Rust's lists, and counts what came of them.
 pub struct Answering {
     state: State,
+    pub counts: Counts,
 }
 
 impl Answering {
     pub fn new() -> Answering {
         theirs::empty_lists(false);
-        Answering { state: State::empty(false) }
+        Answering { state: State::empty(false), counts: Counts::new() }
     }
 
     pub fn answer(&mut self, line: &Line) -> String {
         match line {
             Line::Fresh => {
-                *self = Answering::new();
+                theirs::empty_lists(false);
+                self.state = State::empty(false);
                 "done".to_string()
             }
             Line::Call(Way::Plain, call) => {
                 let judgement = Judgement::of(call, &self.state);
+                self.counts.add(call, &self.state, &judgement);
                 self.state = judgement.after;
                 told(&judgement.answer)
             }

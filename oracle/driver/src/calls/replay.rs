@@ -87,6 +87,8 @@ pub fn write_list(folder: &Path, seed: u64) -> io::Result<()> {
     let stdin: String = lines.iter().map(|line| format!("{line}\n")).collect();
     let stdout: String = lines.iter().map(|line| answering.answer(line) + "\n").collect();
     theirs::empty_lists(false);
+    let faults = answering.counts.faults();
+    assert!(faults.is_empty(), "the list lacks something: {faults:?}");
     assert!(stdin.len() <= MOST_BYTES, "the list has {} bytes", stdin.len());
     fs::create_dir_all(folder)?;
     fs::write(folder.join("stdin"), stdin)?;

@@ -3,7 +3,7 @@
 use super::domain::{meet, part_to_grow, MOST_ENTRIES};
 use super::judge::Judgement;
 use crate::allocator::call::Call;
-use crate::allocator::state::*;
+use crate::allocator::state::{State, GENERAL_FREE, RESERVED_FREE, RESERVED_REGIONS, SLOTS};
 use crate::frames::Range;
 
 #[derive(Clone, Copy, PartialEq, Eq, Hash)]
