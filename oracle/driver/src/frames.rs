@@ -11,6 +11,11 @@ impl Range {
     pub fn is_empty(self) -> bool {
         self.start > self.end
     }
+
+    /// Whether two ranges with frames have one in common.
+    pub fn meets(self, other: Range) -> bool {
+        self.start <= other.end && other.start <= self.end
+    }
 }
 
 /// The highest frame.

@@ -6,8 +6,8 @@
 //! called from everywhere; so the window is a few associated functions of `FreeFrames`.
 //!
 //! Dropping a `Frames` returns its frames to the allocator's lists. Each one made here is held in a
-//! `ManuallyDrop`, so none ever is: the range and frame calls are functions of their operands alone.
-//! What a boot puts in the lists is forgotten before the next one.
+//! `ManuallyDrop`, so none ever is, but by `window_return`: the range and frame calls are functions of
+//! their operands alone. What the lists hold is forgotten before the next boot.
 
 use super::*;
 use alloc::vec::Vec;
@@ -100,6 +100,11 @@ impl FreeFrames {
         insert(&RESERVED_REGIONS, reserved_regions, |frames| {
             PhysicalMemoryRegion::new(frames, MemoryRegionType::Reserved)
         });
+    }
+
+    /// A return: frames of these numbers are made, as the callback of `init` makes them, and dropped.
+    pub fn window_return(frames: FrameRange) {
+        drop(into_unmapped_frames(frames));
     }
 
     /// Where the search of the general list finds only some of these frames: the first absent one, and

@@ -17,6 +17,7 @@ pub enum Call {
     AtBytes(u64, u64),
     /// So many general frames from this one on.
     GeneralAt(u64, u64),
+    Return(Range),
 }
 
 /// Which call it is, without operands.
@@ -30,10 +31,11 @@ pub enum Kind {
     At,
     AtBytes,
     GeneralAt,
+    Return,
 }
 
 impl Kind {
-    pub const ALL: [Kind; 8] = [
+    pub const ALL: [Kind; 9] = [
         Kind::Boot,
         Kind::BootBytes,
         Kind::Sort,
@@ -42,6 +44,7 @@ impl Kind {
         Kind::At,
         Kind::AtBytes,
         Kind::GeneralAt,
+        Kind::Return,
     ];
 
     fn of(unit: Unit) -> Kind {
@@ -61,6 +64,7 @@ impl Kind {
             Kind::At => "at",
             Kind::AtBytes => "at_bytes",
             Kind::GeneralAt => "general_at",
+            Kind::Return => "return",
         }
     }
 }
@@ -76,6 +80,7 @@ impl fmt::Display for Call {
             Call::At(start, count)
             | Call::AtBytes(start, count)
             | Call::GeneralAt(start, count) => write!(f, "{name} {start} {count}"),
+            Call::Return(range) => write!(f, "{name} {} {}", range.start, range.end),
         }
     }
 }
@@ -97,10 +102,11 @@ impl Call {
             Call::At(..) => Kind::At,
             Call::AtBytes(..) => Kind::AtBytes,
             Call::GeneralAt(..) => Kind::GeneralAt,
+            Call::Return(_) => Kind::Return,
         }
     }
 
-    /// The frames that the call names, if it names an address and asks for a frame, and if they end
+    /// The frames that a request names, if it names an address and asks for a frame, and if they end
     /// inside 64 bits.
     pub fn frames(&self) -> Option<Range> {
         let (start, count) = match *self {

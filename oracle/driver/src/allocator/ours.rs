@@ -3,6 +3,7 @@
 use super::area::{Boot, Unit};
 use super::call::Call;
 use super::record::{Answer, Called, FrameAllocator, Stored};
+use crate::frames::Range;
 
 #[rustfmt::skip]
 extern "C" {
@@ -14,6 +15,7 @@ extern "C" {
     fn likhmout_allocate_frames_at(a: FrameAllocator, words: *mut u64, len: usize, frame: u64, count: u64) -> Called;
     fn likhmout_allocate_frames_by_bytes_at(a: FrameAllocator, words: *mut u64, len: usize, address: u64, bytes: u64) -> Called;
     fn likhmout_allocate_general_frames_at(a: FrameAllocator, words: *mut u64, len: usize, frame: u64, count: u64) -> Called;
+    fn likhmout_return_frames(a: FrameAllocator, words: *mut u64, len: usize, start: u64, end: u64) -> Called;
 }
 
 /// Makes the call, and leaves the record that it hands back.
@@ -33,6 +35,7 @@ pub fn answer(call: &Call, stored: &mut Stored) -> Answer {
             Call::GeneralAt(frame, count) => {
                 likhmout_allocate_general_frames_at(a, words, len, frame, count)
             }
+            Call::Return(Range { start, end }) => likhmout_return_frames(a, words, len, start, end),
         }
     };
     stored.allocator = called.allocator;

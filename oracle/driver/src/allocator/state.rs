@@ -56,6 +56,17 @@ impl State {
         }
     }
 
+    /// Whether the entries of a list hold these frames together. No two entries have a frame in common.
+    pub fn holds(&self, list: usize, frames: Range) -> bool {
+        if frames.is_empty() {
+            return false;
+        }
+        let entries = self.entries(list);
+        let shared = |entry: &Range| entry.end.min(frames.end) + 1 - entry.start.max(frames.start);
+        let sum: u64 = entries.iter().filter(|entry| entry.meets(frames)).map(shared).sum();
+        sum.checked_sub(1) == Some(frames.end - frames.start)
+    }
+
     pub fn is_empty(&self) -> bool {
         (0..NAMES.len()).all(|list| self.len(list) == 0)
     }

@@ -53,6 +53,10 @@ pub fn reply(call: &Call) -> Reply {
             granted(|| allocate_frames_by_bytes_deferred(Some(address(start)), bytes as usize))
         }
         Call::GeneralAt(start, count) => caught(|| general_at(start, count)),
+        Call::Return(Range { start, end }) => {
+            FreeFrames::window_return(frame_range(start, end));
+            Reply::Done
+        }
     }
 }
 

@@ -26,6 +26,7 @@ fn possible(kind: Kind, sorted: bool) -> &'static [u64] {
         (Kind::At | Kind::AtBytes, true) => &[0, 1, 2, 12, 13, 16, 17, 18],
         (Kind::GeneralAt, false) => &[0, 1, 2, 12, 18],
         (Kind::GeneralAt, true) => &[0, 1, 2, 12, 15, 17, 18],
+        (Kind::Return, _) => &[0, 2, 18, 19],
     }
 }
 

@@ -27,14 +27,18 @@ enum Filling {
     Split(usize),
     /// Requests for frames above all regions.
     Grow,
+    /// Returns of frames between held ones. The first chunks of a list are taken whole before.
+    Give(usize),
 }
 
 impl Plan {
     /// One in four fills a list of 32, and one in 150 a list of 512, which takes long.
     pub fn new(random: &mut Random) -> Plan {
-        let filling = match random.below(3) {
+        let filling = match random.below(5) {
             0 => Filling::Split(GENERAL_FREE),
             1 => Filling::Split(RESERVED_FREE),
+            2 => Filling::Give(GENERAL_FREE),
+            3 => Filling::Give(RESERVED_FREE),
             _ => Filling::Grow,
         };
         let any = 1 + random.below(40);
@@ -59,12 +63,14 @@ impl Plan {
                 _ if random.once_in(16) => request(state, random),
                 Filling::Split(list) => split(list, state, random),
                 Filling::Grow => grow(state, random),
+                Filling::Give(list) => give(list, state, random),
             });
         }
         self.any = self.any.checked_sub(1)?;
         Some(match random.below(48) {
             0 => Call::Sort,
             1 => Call::Boot(some_boot(random)),
+            2..=14 => Call::Return(range_to_return(state, random)),
             _ => request(state, random),
         })
     }
@@ -121,6 +127,58 @@ fn grow(state: &State, random: &mut Random) -> Call {
     let regions = [GENERAL_REGIONS, RESERVED_REGIONS].map(|list| state.entries(list));
     let highest = regions.iter().flatten().map(|region| region.end).max().unwrap_or(0);
     Call::At(highest + 1 + random.below(3), 1 + random.below(2))
+}
+
+/// A frame or two from inside the longest held run, or where there is none, the longest chunk is taken.
+fn give(list: usize, state: &State, random: &mut Random) -> Call {
+    let runs = held(state, list);
+    match runs.iter().max_by_key(|run| run.end - run.start) {
+        Some(run) if run.end - run.start >= 4 => {
+            let start = run.start + 1 + random.below(2);
+            Call::Return(Range { start, end: start })
+        }
+        _ => match state.entries(list).iter().max_by_key(|chunk| chunk.end - chunk.start) {
+            Some(chunk) => Call::At(chunk.start, chunk.end - chunk.start + 1),
+            None => request(state, random),
+        },
+    }
+}
+
+/// The frames of a kind's regions that are not free, as runs that may touch where regions do.
+fn held(state: &State, list: usize) -> Vec<Range> {
+    let mut chunks = state.entries(list);
+    chunks.sort_by_key(|chunk| chunk.start);
+    let mut runs = Vec::new();
+    for region in state.entries(list + GENERAL_REGIONS) {
+        let mut start = region.start;
+        for chunk in chunks.iter().filter(|chunk| chunk.meets(region)) {
+            runs.extend((start < chunk.start).then(|| Range { start, end: chunk.start - 1 }));
+            start = chunk.end + 1;
+        }
+        runs.extend((start <= region.end).then_some(Range { start, end: region.end }));
+    }
+    runs
+}
+
+/// A run of held frames, a part of one, a part that reaches one frame too far, a run and what is above it;
+/// or any range.
+fn range_to_return(state: &State, random: &mut Random) -> Range {
+    let list = random.pick(&[GENERAL_FREE as u64, RESERVED_FREE as u64]) as usize;
+    let Some(run) = some(&held(state, list), random) else {
+        let (start, count) = frames(state, random);
+        return Range { start, end: start.wrapping_add(count).wrapping_sub(1) };
+    };
+    let inside = run.start + random.below(run.end - run.start + 1);
+    match random.below(16) {
+        0..=3 => run,
+        4..=6 => Range { start: run.start, end: inside },
+        7..=9 => Range { start: inside, end: run.end },
+        10 | 11 => Range { start: inside, end: inside },
+        12 => Range { start: run.start.saturating_sub(1), end: inside },
+        13 => Range { start: inside, end: run.end + 1 + random.below(3) },
+        14 => Range { start: inside + 1, end: random.pick(&[0, inside, TOP + 1]) },
+        _ => Range { start: inside, end: random.pick(&[TOP, TOP + 1, u64::MAX]) },
+    }
 }
 
 fn request(state: &State, random: &mut Random) -> Call {

@@ -1,9 +1,11 @@
 //! What came of a call, told apart by the lists before it and after it.
 
-use super::domain::{meet, part_to_grow, MOST_ENTRIES};
+use super::domain::{part_to_grow, MOST_ENTRIES};
 use super::judge::Judgement;
 use crate::allocator::call::Call;
-use crate::allocator::state::{State, GENERAL_FREE, RESERVED_FREE, RESERVED_REGIONS, SLOTS};
+use crate::allocator::state::{
+    State, GENERAL_FREE, GENERAL_REGIONS, RESERVED_FREE, RESERVED_REGIONS, SLOTS,
+};
 use crate::frames::Range;
 
 #[derive(Clone, Copy, PartialEq, Eq, Hash)]
@@ -36,6 +38,17 @@ pub enum Row {
     EighteenReserved,
     EighteenChunks,
     EighteenRegions,
+    GivenNothing,
+    GivenGeneral,
+    GivenReserved,
+    GivenAcross,
+    JoinedAbove,
+    JoinedAboveOnly,
+    JoinedBelow,
+    JoinedNone,
+    EighteenGiven,
+    NineteenFree,
+    NineteenOutside,
 }
 
 /// In which form a row can occur.
@@ -47,7 +60,7 @@ enum Form {
 }
 
 impl Row {
-    pub const ALL: [Row; 28] = [
+    pub const ALL: [Row; 39] = [
         Row::FromGeneral,
         Row::FromReserved,
         Row::TwoGeneral,
@@ -76,6 +89,17 @@ impl Row {
         Row::EighteenReserved,
         Row::EighteenChunks,
         Row::EighteenRegions,
+        Row::GivenNothing,
+        Row::GivenGeneral,
+        Row::GivenReserved,
+        Row::GivenAcross,
+        Row::JoinedAbove,
+        Row::JoinedAboveOnly,
+        Row::JoinedBelow,
+        Row::JoinedNone,
+        Row::EighteenGiven,
+        Row::NineteenFree,
+        Row::NineteenOutside,
     ];
 
     pub fn label(self) -> &'static str {
@@ -116,11 +140,25 @@ impl Row {
             Row::EighteenReserved => ("18, a reserved chunk leaves two", Form::Both),
             Row::EighteenChunks => ("18, growth beside 32 reserved chunks", Form::Early),
             Row::EighteenRegions => ("18, growth of a full list of regions", Form::Both),
+            Row::GivenNothing => ("returned, an empty range", Form::Both),
+            Row::GivenGeneral => ("returned to the general list", Form::Both),
+            Row::GivenReserved => ("returned to the reserved list", Form::Both),
+            Row::GivenAcross => ("    from more than one region", Form::Both),
+            Row::JoinedAbove => ("    joined above", Form::Sorted),
+            Row::JoinedAboveOnly => ("    joined above, where it touches below too", Form::Sorted),
+            Row::JoinedBelow => ("    joined below", Form::Sorted),
+            Row::JoinedNone => ("    a chunk of its own", Form::Both),
+            Row::EighteenGiven => ("18, a return to a full list", Form::Both),
+            Row::NineteenFree => ("19, a frame is free", Form::Both),
+            Row::NineteenOutside => ("19, not in regions of one kind", Form::Both),
         }
     }
 
     pub fn of(call: &Call, before: &State, judgement: &Judgement) -> Vec<Row> {
         let answer = &judgement.answer;
+        if let Call::Return(range) = *call {
+            return of_return(range, answer.number, before, &judgement.after);
+        }
         let general_only = matches!(call, Call::GeneralAt(..));
         let Some(frames) = call.frames() else {
             return match answer {
@@ -145,8 +183,8 @@ impl Row {
                 vec![Row::SeventeenReserved]
             }
             17 => vec![Row::SeventeenGeneral],
-            18 if holds(before, RESERVED_FREE, frames) => vec![Row::EighteenReserved],
-            18 if holds(before, GENERAL_FREE, frames) => vec![Row::EighteenGeneral],
+            18 if before.holds(RESERVED_FREE, frames) => vec![Row::EighteenReserved],
+            18 if before.holds(GENERAL_FREE, frames) => vec![Row::EighteenGeneral],
             18 if before.len(RESERVED_REGIONS) == most(before) => vec![Row::EighteenRegions],
             18 => vec![Row::EighteenChunks],
             _ => Vec::new(),
@@ -159,7 +197,7 @@ fn of_grant(granted: Range, before: &State, after: &State) -> Vec<Row> {
     let is_reserved = has_grown || has_frame(before, RESERVED_FREE, granted.start);
     let list = if is_reserved { RESERVED_FREE } else { GENERAL_FREE };
     let chunks: Vec<Range> =
-        before.entries(list).into_iter().filter(|chunk| meet(chunk, &granted)).collect();
+        before.entries(list).into_iter().filter(|chunk| chunk.meets(granted)).collect();
     let left_before = chunks.iter().any(|chunk| chunk.start < granted.start);
     let left_after = chunks.iter().any(|chunk| granted.end < chunk.end);
     let is_full = [GENERAL_FREE, RESERVED_FREE].iter().any(|list| after.len(*list) == most(after));
@@ -177,7 +215,39 @@ fn of_grant(granted: Range, before: &State, after: &State) -> Vec<Row> {
         (Row::GrownBesideFull, has_grown && before.len(RESERVED_FREE) == MOST_ENTRIES),
         (Row::Full, is_full),
     ];
-    seen.into_iter().filter(|(_, is_so)| *is_so).map(|(row, _)| row).collect()
+    those_seen(&seen)
+}
+
+fn of_return(range: Range, number: u64, before: &State, after: &State) -> Vec<Row> {
+    let kinds = [(GENERAL_REGIONS, GENERAL_FREE), (RESERVED_REGIONS, RESERVED_FREE)];
+    let kind = kinds.into_iter().find(|(regions, _)| before.holds(*regions, range));
+    match (number, kind) {
+        (0, _) if range.is_empty() => return vec![Row::GivenNothing],
+        (18, _) => return vec![Row::EighteenGiven],
+        (19, None) => return vec![Row::NineteenOutside],
+        (19, _) => return vec![Row::NineteenFree],
+        _ => {}
+    }
+    let Some((regions, list)) = kind else { return Vec::new() };
+    let is_across = before.entries(regions).iter().filter(|r| r.meets(range)).count() > 1;
+    let chunks = before.entries(list);
+    let touches_below = chunks.iter().any(|chunk| chunk.end + 1 == range.start);
+    let touches_above = chunks.iter().any(|chunk| range.end + 1 == chunk.start);
+    let is_alone = after.len(list) > before.len(list);
+    let seen = [
+        (Row::GivenGeneral, list == GENERAL_FREE),
+        (Row::GivenReserved, list == RESERVED_FREE),
+        (Row::GivenAcross, is_across),
+        (Row::JoinedAbove, !is_alone && touches_above && !touches_below),
+        (Row::JoinedAboveOnly, !is_alone && touches_above && touches_below),
+        (Row::JoinedBelow, !is_alone && !touches_above),
+        (Row::JoinedNone, is_alone),
+    ];
+    those_seen(&seen)
+}
+
+fn those_seen(rows: &[(Row, bool)]) -> Vec<Row> {
+    rows.iter().filter(|(_, is_so)| *is_so).map(|(row, _)| *row).collect()
 }
 
 /// The part of a request that would grow the reserved lists.
@@ -199,14 +269,6 @@ fn most(state: &State) -> usize {
 
 fn has_frame(state: &State, list: usize, frame: u64) -> bool {
     state.entries(list).iter().any(|chunk| chunk.start <= frame && frame <= chunk.end)
-}
-
-/// Whether the chunks of a list hold the frames together.
-fn holds(state: &State, list: usize, frames: Range) -> bool {
-    let chunks = state.entries(list);
-    let shared = |chunk: &Range| chunk.end.min(frames.end) + 1 - chunk.start.max(frames.start);
-    let sum: u64 = chunks.iter().filter(|chunk| meet(chunk, &frames)).map(shared).sum();
-    sum == frames.end - frames.start + 1
 }
 
 fn range([start, end]: [u64; 2]) -> Range {

@@ -1,18 +1,20 @@
-//! Small worlds, whole: every map of four frames, in either form, and every two requests after it.
+//! Small worlds, whole: every map of four frames, in either form, and every two requests or returns after
+//! it.
 
 use crate::allocator::area::{general, reserved, Area, Boot};
 use crate::allocator::call::Call;
+use crate::frames::Range;
 
 /// The maps have these frames, and requests reach one frame further.
 const FRAMES: u64 = 4;
 
 /// Runs `run` on each list of calls.
 pub fn each(mut run: impl FnMut(&[Call])) {
-    let requests = requests();
+    let later = later();
     for map in maps() {
         for form in [&[][..], &[Call::Sort]] {
-            for first in &requests {
-                for second in &requests {
+            for first in &later {
+                for second in &later {
                     let boot = [Call::Boot(Boot::of_frames(&map))];
                     run(&[&boot, form, &[first.clone(), second.clone()]].concat());
                 }
@@ -39,14 +41,16 @@ fn maps() -> Vec<Vec<Area>> {
     maps
 }
 
-/// Every request of a range, and every count.
-fn requests() -> Vec<Call> {
-    let mut requests = Vec::new();
+/// Every request and return of a range, and every count.
+fn later() -> Vec<Call> {
+    let mut later = Vec::new();
     for start in 0..=FRAMES {
         for count in 1..=FRAMES + 1 - start {
-            requests.extend([Call::At(start, count), Call::GeneralAt(start, count)]);
+            let range = Range { start, end: start + count - 1 };
+            later.extend([Call::At(start, count), Call::GeneralAt(start, count)]);
+            later.push(Call::Return(range));
         }
     }
-    requests.extend((1..=FRAMES).map(Call::Count));
-    requests
+    later.extend((1..=FRAMES).map(Call::Count));
+    later
 }
