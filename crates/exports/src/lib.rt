@@ -4,6 +4,7 @@
 pub mod allocations;
 mod answers;
 pub mod boots;
+pub mod deallocations;
 pub mod ranges;
 pub mod rules_check;
 pub mod sorts;

@@ -81,6 +81,7 @@ fn make(a: FrameAllocator, words: &mut [u64], call: Call, areas: &[u64]) -> Call
         Call::BootBytes => boot::init_from_bytes(a, areas, words),
         Call::Sort => sort::convert_frame_allocator_to_heap_based(a, words),
         Call::Request(request) => requests::allocate(a, words, request),
+        Call::Return(range) => returns::return_frames(a, words, range),
     }
 }
 

@@ -9,9 +9,10 @@
 //   at S N             requests N frames from frame S on
 //   at_bytes A N       requests N bytes from address A on
 //   general_at S N     requests N general frames from frame S on
+//   return S E         returns the frames from S to E
 //   lists              calls nothing, and shows the record
 //
-// One of these may stand before a boot, a sort or a request:
+// One of these may stand before a call:
 //
 //   short              calls with a workspace of 4,095 words
 //   broken_slot        calls with a copy of the record that breaks a rule: a slot is used and has no frame

@@ -2,6 +2,7 @@
 ghost use Prim.Native.Nat.{_≤_};
 use lines::Layout;
 use lines::Reading;
+use memory_structs::FrameRange;
 use requests::Request;
 
 // What a call is made with: the record and the workspace as they are, a short workspace, a broken record, or a broken workspace.
@@ -25,6 +26,7 @@ pub enum Call {
     BootBytes,
     Sort,
     Request(Request),
+    Return(FrameRange),
 }
 
 // The way that the line's first word names; a line that begins with its call is plain.
@@ -125,6 +127,9 @@ fn with_two(name: &[u8], from: u64, n: u64) -> Asked {
     }
     if check::same(name, b"general_at") {
         return Asked::Call(Call::Request(Request::GeneralFramesAt(from, n)));
+    }
+    if check::same(name, b"return") {
+        return Asked::Call(Call::Return(FrameRange::new(from, n)));
     }
     Asked::Nothing
 }
