@@ -35,7 +35,7 @@ const MOST_BYTES_OF_ONE: usize = 2_000;
 const MOST_BYTES: usize = 262_144;
 
 /// Lines that are no call. `(bad)` answers each.
-const BAD: [&str; 42] = [
+const BAD: [&str; 44] = [
     "",
     " ",
     "fresh ",
@@ -71,6 +71,8 @@ const BAD: [&str; 42] = [
     "at 1 2 3",
     "at_bytes 1",
     "general_at 1",
+    "return",
+    "return 1",
     "short",
     "short ",
     "short lists",
