@@ -14,9 +14,9 @@ pub fn init(a: &mut FrameAllocator, areas: &[Area], words: &[u64]) -> Answer
     ensures { λ r. ⌜ Gives (bootCall (now (areas .entry))) (now (a .entry)) (now (words .entry)) (changed r (now (a .exit))) (now (words .entry)) ⌝ }
 {
     let survey = maps::frame_map::survey(areas);
-    let called = boot::boot_surveyed(*a, survey, words);
-    *a = called.allocator;
-    called.answer
+    let booted = boot::boot_surveyed(*a, survey, words);
+    *a = booted.allocator;
+    booted.answer
 }
 
 // Boots from areas given as address, size in bytes and kind.
@@ -24,9 +24,9 @@ pub fn init_from_bytes(a: &mut FrameAllocator, areas: &[ByteArea], words: &[u64]
     ensures { λ r. ⌜ Gives (bootBytesCall (now (areas .entry))) (now (a .entry)) (now (words .entry)) (changed r (now (a .exit))) (now (words .entry)) ⌝ }
 {
     let survey = maps::byte_map::survey(areas);
-    let called = boot::boot_surveyed(*a, survey, words);
-    *a = called.allocator;
-    called.answer
+    let booted = boot::boot_surveyed(*a, survey, words);
+    *a = booted.allocator;
+    booted.answer
 }
 
 // A request: document 01, "How a request is met".
@@ -42,16 +42,16 @@ pub fn allocate(a: &mut FrameAllocator, words: &mut [u64], request: Request) -> 
 pub fn convert_frame_allocator_to_heap_based(a: &mut FrameAllocator, words: &mut [u64]) -> Answer
     ensures { λ r. ⌜ Gives sortCall (now (a .entry)) (now (words .entry)) (changed r (now (a .exit))) (now (words .exit)) ⌝ }
 {
-    let called = sort::convert_frame_allocator_to_heap_based(*a, words);
-    *a = called.allocator;
-    called.answer
+    let sorted = sort::convert_frame_allocator_to_heap_based(*a, words);
+    *a = sorted.allocator;
+    sorted.answer
 }
 
 // A return: the frames of the range are free again.
 pub fn return_frames(a: &mut FrameAllocator, words: &mut [u64], range: FrameRange) -> Answer
     ensures { λ r. ⌜ Gives (returnCall range) (now (a .entry)) (now (words .entry)) (changed r (now (a .exit))) (now (words .exit)) ⌝ }
 {
-    let called = returns::return_frames(*a, words, range);
-    *a = called.allocator;
-    called.answer
+    let returned = returns::return_frames(*a, words, range);
+    *a = returned.allocator;
+    returned.answer
 }
