@@ -22,7 +22,8 @@ pub struct Survey {
     pub pieces: RangeList,
 }
 
-// Boots from areas given as first frame, last frame and kind. The workspace is tested where the record is sorted, and never written.
+// Boots from areas given as first frame, last frame and kind. The workspace has 4,096 words in either form, else 3; it is read only in
+// sorted form, and never written.
 pub fn init(a: FrameAllocator, areas: &[u64], words: &[u64]) -> Called
     ensures { λ r. ⌜ Gives (bootCall (areasIn (now (areas .entry)))) a (now (words .entry)) r (now (words .entry)) ⌝ }
 {

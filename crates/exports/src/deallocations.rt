@@ -1,5 +1,4 @@
-// Returns: document 01, "Return". The record goes in and comes back by value, and a `bool` of it is a byte that is 0 or 1; the workspace is
-// lent, and C sees it as a pointer and its number of words. Frames are named by their numbers, not by their addresses.
+// Returns: document 01, "Return". Frames are named by their numbers, not by their addresses.
 ghost use Rattle.memory_structs.specs.Range.{range};
 ghost use Rattle.model.specs.Calls.{Gives, returnCall};
 use memory_structs::FrameRange;

@@ -1,5 +1,4 @@
-// Questions: document 01, "kind of a range", "free total", "held list". The record goes in by value, a `bool` of it as a byte that is 0 or
-// 1, and the workspace is lent to be read; C sees a slice as a pointer and its number of words. Only the held list's buffer is written.
+// Questions: document 01, "kind of a range", "free total", "held list". Only the held list's buffer is written.
 ghost use Rattle.memory_structs.specs.Range.{range};
 ghost use Rattle.model.specs.Calls.{kindCall, totalCall, Answers, ListsHeld};
 ghost use Rattle.areas.specs.Areas.{kindOfWord};
@@ -28,7 +27,8 @@ pub extern "C" fn likhmout_free_total(allocator: FrameAllocator, words: &[u64], 
     queries::free_total(allocator, words, areas::kind_of(kind))
 }
 
-// count: how many runs are held. They are at the beginning of the buffer, which has 2,048 words at least, as first and last frame, ascending.
+// count: how many runs are held. They are at the beginning of the buffer, as first and last frame, in an order that document 01 leaves
+// open. A buffer below 2,048 words is 3.
 #[no_mangle]
 pub extern "C" fn likhmout_held_list(
     allocator: FrameAllocator,

@@ -1,15 +1,20 @@
-// The public face: every call of document 01. A call that changes the record changes it in place; a question reads it.
+// The public face: every call of document 01. A call that changes the record changes it in place; a question takes a copy.
 ghost use Rattle.model.specs.Calls.{bootCall, bootBytesCall, sortCall, returnCall, Gives};
 ghost use Rattle.requests.specs.Asked.{callOf};
 ghost use Rattle.frame_allocator.specs.InPlace.{changed};
+pub use lists::fresh;
 use memory_structs::FrameRange;
 use model::Answer;
 use model::Area;
 use model::ByteArea;
 use model::FrameAllocator;
-use requests::Request;
+pub use queries::free_total;
+pub use queries::held_list;
+pub use queries::kind_of_range;
+pub use requests::Request;
 
-// Boots from areas given as first frame, last frame and kind. The workspace is tested where the record is sorted, and never written.
+// Boots from areas given as first frame, last frame and kind. The workspace has 4,096 words in either form, else 3; it is read only in
+// sorted form, and never written.
 pub fn init(a: &mut FrameAllocator, areas: &[Area], words: &[u64]) -> Answer
     ensures { λ r. ⌜ Gives (bootCall (now (areas .entry))) (now (a .entry)) (now (words .entry)) (changed r (now (a .exit))) (now (words .entry)) ⌝ }
 {

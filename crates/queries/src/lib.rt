@@ -28,7 +28,8 @@ pub fn free_total(a: FrameAllocator, words: &[u64], kind: Kind) -> Answer
     lookups::free_total(a, words, kind)
 }
 
-// "**held list**, the maximal runs of general frames not free, as pairs of words", ascending. A buffer below 2,048 words is 3, before 11.
+// "**held list**, the maximal runs of general frames not free, as pairs of words [..] Its order is left open". A buffer below 2,048 words
+// is 3, before 11.
 pub fn held_list(a: FrameAllocator, words: &[u64], buffer: &mut [u64]) -> Answer
     ensures { λ r. ⌜ ListsHeld a (now (words .entry)) (now (buffer .entry)) r (now (buffer .exit)) ⌝ }
 {

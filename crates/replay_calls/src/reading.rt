@@ -110,23 +110,32 @@ fn alone(name: &[u8]) -> Asked {
 
 fn with_one(name: &[u8], n: u64) -> Asked {
     if check::same(name, b"count") {
-        return Asked::Call(Call::Request(Request::Frames(n)));
+        return Asked::Call(Call::Request(Request::Frames { num_frames: n }));
     }
     if check::same(name, b"count_bytes") {
-        return Asked::Call(Call::Request(Request::Bytes(n)));
+        return Asked::Call(Call::Request(Request::Bytes { num_bytes: n }));
     }
     Asked::Nothing
 }
 
 fn with_two(name: &[u8], from: u64, n: u64) -> Asked {
     if check::same(name, b"at") {
-        return Asked::Call(Call::Request(Request::FramesAt(from, n)));
+        return Asked::Call(Call::Request(Request::FramesAt {
+            frame: from,
+            num_frames: n,
+        }));
     }
     if check::same(name, b"at_bytes") {
-        return Asked::Call(Call::Request(Request::BytesAt(from, n)));
+        return Asked::Call(Call::Request(Request::BytesAt {
+            address: from,
+            num_bytes: n,
+        }));
     }
     if check::same(name, b"general_at") {
-        return Asked::Call(Call::Request(Request::GeneralFramesAt(from, n)));
+        return Asked::Call(Call::Request(Request::GeneralFramesAt {
+            frame: from,
+            num_frames: n,
+        }));
     }
     if check::same(name, b"return") {
         return Asked::Call(Call::Return(FrameRange::new(from, n)));
