@@ -2,6 +2,9 @@
 ghost use Rattle.model.specs.Calls.{bootCall, bootBytesCall, sortCall, returnCall, Gives};
 ghost use Rattle.requests.specs.Asked.{callOf};
 ghost use Rattle.frame_allocator.specs.InPlace.{changed};
+
+pub mod by_value;
+
 pub use lists::fresh;
 use memory_structs::FrameRange;
 use model::Answer;

@@ -1,0 +1,11 @@
+// The calls on a record by value: each takes the record, and hands it back in `Called` with the answer.
+pub use boot::init;
+pub use boot::init_from_bytes;
+pub use requests::allocate;
+pub use requests::allocate_frames;
+pub use requests::allocate_frames_at;
+pub use requests::allocate_frames_by_bytes;
+pub use requests::allocate_frames_by_bytes_at;
+pub use requests::allocate_general_frames_at;
+pub use returns::return_frames;
+pub use sort::convert_frame_allocator_to_heap_based;
