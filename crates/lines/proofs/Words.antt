@@ -124,7 +124,7 @@ after-byte true b bs e = refl
 after-byte false b bs e = ap (inFront b) e
 
 -- the first word ends before the first space
-first-word : (bs : List ℕ) → wordsIn bs ≡ take (indexOf 32 bs) bs ∷ wordsAfter (drop (indexOf 32 bs) bs)
+pub first-word : (bs : List ℕ) → wordsIn bs ≡ take (indexOf 32 bs) bs ∷ wordsAfter (drop (indexOf 32 bs) bs)
 unfolding wordsIn wordsAfter indexOf
 first-word [] = refl
 first-word (b ∷ bs) = after-byte (eqb b 32) b bs (first-word bs)
