@@ -5,8 +5,8 @@ use native.Mathlib.Numerals.{add-one}
 use mathlib.Core.Path.{_≡_, refl, sym, ap, _∙_}
 use mathlib.Core.Bool.{Bool, true, false, cond}
 use mathlib.Core.List.{List, [], _∷_, _++_}
-use lib.ListN.{length, getD, take, drop, length-drop}
-use lib.Seq.{drop-cons, take-length, take-all, drop-length}
+use lib.ListN.{length, getD, take, drop}
+use lib.Seq.{drop-cons, take-length, drop-length}
 use lib.Dec.{eqb}
 use borrow.Author.Tests.{eqb-true, le-leb, lt-leb, lt-ltb, le-ltb}
 use Rattle.bytes.specs.Bytes.{slice, indexOf}
@@ -91,10 +91,6 @@ second-number name a t = go (parted-of t)
     go (parted b d ws more bare) = rw (more, none t (bare (Number 0))) (sym (no-second name (decimalOf a)))
 
 -- ---- a line by its length and its brackets
-
--- a part that reaches to the end
-pub rest : (n : ℕ) (l : List ℕ) → take (length l - n) (drop n l) ≡ drop n l
-rest n l = take-all (length l - n) (drop n l) (omega (arith, length-drop n l))
 
 module _ (line : List ℕ) where
   pub too-long : 128 < length line → Bad ≡ commandOf line

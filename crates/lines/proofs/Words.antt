@@ -5,8 +5,8 @@ use native.Mathlib.Numerals.{add-one}
 use mathlib.Core.Path.{_≡_, refl, sym, ap, _∙_}
 use mathlib.Core.Bool.{Bool, true, false, cond, _&&_, false≢true}
 use mathlib.Core.List.{List, [], _∷_}
-use lib.ListN.{length, getD, take, drop, set, drop-of-length-le}
-use lib.Seq.{drop-cons, drop-drop, take-length}
+use lib.ListN.{length, getD, take, drop, set, drop-of-length-le, length-drop}
+use lib.Seq.{drop-cons, drop-drop, take-all, take-length}
 use lib.Dec.{ltb, eqb}
 use borrow.Author.Tests.{ltb-true, le-leb, lt-leb, lt-ltb, le-ltb, eqb-true, eq-eqb, ne-eqb}
 use Rattle.bytes.specs.Bytes.{slice, indexOf, indexAfter}
@@ -116,6 +116,10 @@ unfolding putNumber
 put-full n r ws full = rw (le-ltb (r .len) (length ws) full)
 
 -- ---- the words of a text
+
+-- a part that reaches to the end
+pub to-end : (n : ℕ) (l : List ℕ) → take (length l - n) (drop n l) ≡ drop n l
+to-end n l = take-all (length l - n) (drop n l) (omega (arith, length-drop n l))
 
 after-byte : (t : Bool) (b : ℕ) (bs : List ℕ) → wordsIn bs ≡ take (indexOf 32 bs) bs ∷ wordsAfter (drop (indexOf 32 bs) bs) →
     cond t ([] ∷ wordsIn bs) (inFront b (wordsIn bs)) ≡ take (indexAfter t (indexOf 32 bs)) (b ∷ bs) ∷ wordsAfter (drop (indexAfter t (indexOf 32 bs)) (b ∷ bs))

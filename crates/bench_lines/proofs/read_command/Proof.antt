@@ -5,9 +5,9 @@ use mathlib.Core.Logic.{⊎-elim}
 use mathlib.Core.List.{List}
 use lib.ListN.{length, take, length-take}
 use Rattle.lines.specs.Words.{sameText}
-use Rattle.lines.proofs.Words.{same-told}
+use Rattle.lines.proofs.Words.{to-end, same-told}
 use Rattle.bench_lines.specs.Commands.{openingText, closingText}
-use Rattle.bench_lines.proofs.Reading.{rest, too-long, too-short, not-opened, not-closed, form}
+use Rattle.bench_lines.proofs.Reading.{too-long, too-short, not-opened, not-closed, form}
 use native.Mathlib.Omega.{arith}
 use borrow.Author.Needs.{needs}
 use Rattle.bench_lines.proofs.read_command.Statement.{statement}
@@ -68,7 +68,7 @@ returns-3 c =
     c .read-form .ensures
     ∙ form l (omega arith) (omega arith)
     (same-told _ (take 1 l) openingText (s .same .ensures) ∙ e .before .before .before .if3 .taken)
-    (ap (λ (t : List ℕ). sameText t closingText) (sym (rest (length l - 1) l)) ∙ same-told _ _ closingText (e .same2 .ensures) ∙ c .before .before .if4 .taken)
+    (ap (λ (t : List ℕ). sameText t closingText) (sym (to-end (length l - 1) l)) ∙ same-told _ _ closingText (e .same2 .ensures) ∙ c .before .before .if4 .taken)
 
 returns-4 : tie.Need-returns-4
 returns-4 c =
@@ -78,7 +78,7 @@ returns-4 c =
     ⊎-elim
     (λ w.
     not-closed l (omega arith) (omega arith) (opened ∙ w .0 .taken)
-    (ap (λ (t : List ℕ). sameText t closingText) (sym (rest (length l - 1) l)) ∙ same-told _ _ closingText (w .3 .ensures) ∙ w .4 .left))
+    (ap (λ (t : List ℕ). sameText t closingText) (sym (to-end (length l - 1) l)) ∙ same-told _ _ closingText (w .3 .ensures) ∙ w .4 .left))
     (λ w. not-opened l (omega arith) (omega arith) (opened ∙ w .left))
     (c .if3 .came)
 

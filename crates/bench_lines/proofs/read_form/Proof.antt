@@ -4,8 +4,9 @@ use mathlib.Core.Path.{sym, ap, _∙_}
 use mathlib.Core.List.{List, _∷_}
 use lib.ListN.{take}
 use Rattle.lines.specs.Words.{wordsIn}
+use Rattle.lines.proofs.Words.{to-end}
 use Rattle.bench_lines.specs.Commands.{commandIn}
-use Rattle.bench_lines.proofs.Reading.{rest, word-alone, word-first}
+use Rattle.bench_lines.proofs.Reading.{word-alone, word-first}
 use lib.ListN.{length-take}
 use native.Mathlib.Omega.{arith}
 use borrow.Author.Needs.{needs}
@@ -49,7 +50,7 @@ returns-2 c =
     let t = f .before .before .args .text .now in
     let e = f .find .result in
     c .with-numbers .ensures
-    ∙ ap (λ (xs : List ℕ). commandIn (take e t ∷ wordsIn xs)) (rest (e + 1) t)
+    ∙ ap (λ (xs : List ℕ). commandIn (take e t ∷ wordsIn xs)) (to-end (e + 1) t)
     ∙ sym (ap commandIn (word-first t e (f .find .ensures .0) (omega arith)))
 
 pub read-form-spec : {M : Type 1} → statement M

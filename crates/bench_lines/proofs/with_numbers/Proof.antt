@@ -6,8 +6,9 @@ use lib.ListN.{take, drop}
 use lib.Seq.{take-all}
 use Rattle.lines.specs.Words.{decimalOf}
 use Rattle.lines.specs.declared.Word.{Word}
+use Rattle.lines.proofs.Words.{to-end}
 use Rattle.bench_lines.specs.Commands.{withOne, withTwo, commandIn}
-use Rattle.bench_lines.proofs.Reading.{rest, word-alone, word-first, second-number}
+use Rattle.bench_lines.proofs.Reading.{word-alone, word-first, second-number}
 use lib.ListN.{length-take}
 use native.Mathlib.Omega.{arith}
 use borrow.Author.Needs.{needs}
@@ -67,7 +68,7 @@ returns-2 c =
     let e = f .find .result in
     c .with-two .ensures
     ∙ ap (λ (w : Word). withTwo n w (c .before .decimal2 .result)) (d .decimal .ensures)
-    ∙ ap (withTwo n (decimalOf (take e t))) (c .before .decimal2 .ensures ∙ ap decimalOf (rest (e + 1) t))
+    ∙ ap (withTwo n (decimalOf (take e t))) (c .before .decimal2 .ensures ∙ ap decimalOf (to-end (e + 1) t))
     ∙ second-number n (take e t) (drop (e + 1) t)
     ∙ sym (ap (λ (ws : List (List ℕ)). commandIn (n ∷ ws)) (word-first t e (f .find .ensures .0) (omega arith)))
 
