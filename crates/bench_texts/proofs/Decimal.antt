@@ -8,12 +8,13 @@ use mathlib.Core.List.{List, [], _∷_, _++_}
 use lib.ListN.{length, length-append}
 use lib.Dec.{leb, ltb}
 use borrow.Author.Tests.{leb-true, leb-false, lt-ltb, le-ltb, ltb-true, ltb-false}
+use Rattle.memory_structs.specs.declared.range.FrameRange.{FrameRange}
 use Rattle.io.specs.Digits.{glyph, digits, Fewest}
 use Rattle.lines.specs.Words.{decimalOf}
 use Rattle.lines.specs.declared.Word.{Word}
 use Rattle.lines.specs.declared.Word.the-variants.{Number}
 use Rattle.lines.proofs.Meaning.{one-digit, next-digit}
-use Rattle.bench_texts.specs.Texts.{Puts, digitsText, decimalText}
+use Rattle.bench_texts.specs.Texts.{Puts, digitsText, decimalText, rangeText}
 
 last-digit : (n : ℕ) → glyph (n % 10) ≡ 48 + n % 10
 last-digit n = rw (lt-ltb (n % 10) 10 (omega arith))
@@ -62,6 +63,12 @@ at-most (suc k) n = go (ltb n 10) (at-most k (n / 10))
 -- so a number takes 20 places at most
 pub within : (n : ℕ) {a b : List ℕ} {i j : ℕ} → Puts (decimalText n) a i b j → j ≤ i + 20
 within n p = omega (arith, p .place, at-most 20 n)
+
+-- and a range two numbers and a space
+pub range-length : (opening closing : List ℕ) (r : FrameRange) → length (rangeText opening r closing) ≤ length opening + length closing + 41
+unfolding rangeText
+range-length opening closing r =
+    simp length-append (omega (arith, at-most 20 (r .start), at-most 20 (r .end)))
 
 -- one digit, or the tenth part's digits and one more
 one-or-more : (k n : ℕ) → n < 2 ^ 64 → (10 ≤ n → decimalOf (digitsText k (n / 10)) ≡ Number (n / 10)) → decimalOf (digitsText (suc k) n) ≡ Number n
