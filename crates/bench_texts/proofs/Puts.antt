@@ -4,7 +4,7 @@ use Prim.Native.Nat.{ℕ, _+_, _-_, _≤_}
 use mathlib.Core.Path.{_≡_, refl, sym, ap, _∙_}
 use mathlib.Core.List.{List, [], _∷_, _++_, append-nil, append-assoc}
 use lib.ListN.{length, take, drop, length-append, length-take, take-append-drop, drop-of-length-le}
-use lib.Seq.{take-length, take-at, drop-at, drop-drop}
+use lib.Seq.{length-take-le, take-length, take-at, drop-at, drop-drop}
 use borrow.Rule.Slice.PartMut.{postOf, putMid}
 use Rattle.lines.proofs.Words.{to-end}
 use Rattle.bench_texts.specs.Texts.{Puts}
@@ -50,3 +50,9 @@ pub puts-nothing : (a : List ℕ) (i : ℕ) → Puts [] a i a i
 puts-nothing a i =
     let e : i ≡ i + 0 = omega arith in
     record { place = e; bytes = sym (take-append-drop i a) ∙ ap (λ (n : ℕ). take i a ++ drop n a) e }
+
+-- a text ends inside the buffer
+pub puts-inside : {t a b : List ℕ} {i j : ℕ} → i ≤ length a → Puts t a i b j → j ≤ length b
+puts-inside {t} {a} {b} {i} {j} inside p =
+    let long : length b ≡ length (take i a) + (length t + length (drop (i + length t) a)) = ap length (p .bytes) ∙ simp length-append in
+    omega (arith, p .place, long, length-take-le i a inside)
