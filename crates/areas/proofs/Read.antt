@@ -4,17 +4,20 @@ use native.Mathlib.Omega.{arith}
 use native.Mathlib.Numerals.{unary-clauses}
 use mathlib.Core.Path.{_≡_, refl, sym, ap, _∙_}
 use mathlib.Core.Bool.{Bool, _||_}
-use mathlib.Core.List.{List, [], _∷_}
+use mathlib.Core.List.{List, [], _∷_, map}
 use lib.ListN.{length, getD, drop}
 use Rattle.memory_structs.specs.Range.{range, aboveTop, touched, bytesOutOfBounds}
 use Rattle.memory_structs.specs.declared.range.FrameRange.{FrameRange}
 use Rattle.model.specs.Lists.{anyOf}
 use Rattle.model.specs.Boot as model
+use Rattle.model.specs.declared.Area.{Area}
+use Rattle.model.specs.declared.ByteArea.{ByteArea}
 use Rattle.model.specs.declared.Kind.{Kind}
 use Rattle.model.specs.declared.Kind.the-variants.{General, Reserved}
 use Rattle.areas.specs.declared.AreaUnit.{AreaUnit}
 use Rattle.areas.specs.declared.AreaUnit.the-variants.{Frames, Bytes}
-use Rattle.areas.specs.Areas.{kindOfWord, triples, areasIn, byteAreasIn, frameArea, byteArea, areaOf, read, extents, anyOutside}
+use Rattle.areas.specs.declared.BootArea.{BootArea}
+use Rattle.areas.specs.Areas.{kindOfWord, triples, areasIn, byteAreasIn, frameArea, byteArea, bootArea, bootByteArea, bootAreas, bootByteAreas, areaOf, read, extents, anyOutside}
 
 -- one area
 pub general-word : (k : ℕ) → k ≡ 0 → General ≡ kindOfWord k
@@ -71,38 +74,52 @@ read-next u ws i h = simp unary-clauses (next-three (areaOf u) ws i h)
 pub read-end : (u : AreaUnit) (ws : List ℕ) (i : ℕ) → length ws < i + 3 → read u (drop i ws) ≡ []
 read-end u ws i h = none-left (areaOf u) ws i h
 
--- what is read is the areas of the model, and 2 refuses the same
-pub record Reads (u : AreaUnit) (ws : List ℕ) (xs : List model.Extent) (outside : Bool) : Type 0 where
-  pub extents-are : extents (read u ws) ≡ xs
-  pub outside-is : anyOutside (read u ws) ≡ outside
+-- the areas that boot takes are the model's, and 2 refuses the same
+pub record Takes (xs : List BootArea) (es : List model.Extent) (outside : Bool) : Type 0 where
+  pub extents-are : extents xs ≡ es
+  pub outside-is : anyOutside xs ≡ outside
 
 range-of : (k : Kind) (r : FrameRange) → model.rangeOf (model.marked k r) ≡ r
 unfolding model.rangeOf model.marked
 range-of General r = refl
 range-of Reserved r = refl
 
-pub frames-read : (ws : List ℕ) → Reads Frames ws (model.inFrames (areasIn ws)) (anyOf aboveTop (model.ranges (model.inFrames (areasIn ws))))
-unfolding triples areaOf frameArea extents anyOutside model.inFrames model.ranges anyOf
-frames-read [] = record { extents-are = refl; outside-is = refl }
-frames-read (x ∷ []) = record { extents-are = refl; outside-is = refl }
-frames-read (x ∷ y ∷ []) = record { extents-are = refl; outside-is = refl }
-frames-read (x ∷ y ∷ k ∷ ws) =
-    let rest = frames-read ws in
+pub frames-taken : (areas : List Area) → Takes (bootAreas areas) (model.inFrames areas) (anyOf aboveTop (model.ranges (model.inFrames areas)))
+unfolding frameArea extents anyOutside model.inFrames model.ranges anyOf
+frames-taken [] = record { extents-are = refl; outside-is = refl }
+frames-taken (a ∷ areas) =
+    let rest = frames-taken areas in
+    let r = range (a .start) (a .end) in
     record {
-      extents-are = ap (λ (l : List model.Extent). model.marked (kindOfWord k) (range x y) ∷ l) (rest .extents-are);
+      extents-are = ap (λ (l : List model.Extent). model.marked (a .kind) r ∷ l) (rest .extents-are);
       outside-is =
-          ap (λ (b : Bool). aboveTop (range x y) || b) (rest .outside-is)
-          ∙ ap (λ (r : FrameRange). aboveTop r || anyOf aboveTop (model.ranges (model.inFrames (areasIn ws)))) (sym (range-of (kindOfWord k) (range x y)));
+          ap (λ (b : Bool). aboveTop r || b) (rest .outside-is)
+          ∙ ap (λ (x : FrameRange). aboveTop x || anyOf aboveTop (model.ranges (model.inFrames areas))) (sym (range-of (a .kind) r));
     }
 
-pub bytes-read : (ws : List ℕ) → Reads Bytes ws (model.inBytes (byteAreasIn ws)) (model.anyOutOfBounds (byteAreasIn ws))
-unfolding triples areaOf byteArea extents anyOutside model.inBytes model.anyOutOfBounds
-bytes-read [] = record { extents-are = refl; outside-is = refl }
-bytes-read (x ∷ []) = record { extents-are = refl; outside-is = refl }
-bytes-read (x ∷ y ∷ []) = record { extents-are = refl; outside-is = refl }
-bytes-read (x ∷ y ∷ k ∷ ws) =
-    let rest = bytes-read ws in
+pub bytes-taken : (areas : List ByteArea) → Takes (bootByteAreas areas) (model.inBytes areas) (model.anyOutOfBounds areas)
+unfolding byteArea extents anyOutside model.inBytes model.anyOutOfBounds
+bytes-taken [] = record { extents-are = refl; outside-is = refl }
+bytes-taken (a ∷ areas) =
+    let rest = bytes-taken areas in
     record {
-      extents-are = ap (λ (l : List model.Extent). model.marked (kindOfWord k) (touched x y) ∷ l) (rest .extents-are);
-      outside-is = ap (λ (b : Bool). bytesOutOfBounds x y || b) (rest .outside-is);
+      extents-are = ap (λ (l : List model.Extent). model.marked (a .kind) (touched (a .address) (a .bytes)) ∷ l) (rest .extents-are);
+      outside-is = ap (λ (b : Bool). bytesOutOfBounds (a .address) (a .bytes) || b) (rest .outside-is);
     }
+
+-- what is read of words
+module _ {A : Type 0} (f : ℕ → ℕ → ℕ → A) (taken : A → BootArea) (u : AreaUnit) (same : (x y k : ℕ) → areaOf u x y k ≡ taken (f x y k)) where
+  words-taken : (ws : List ℕ) → read u ws ≡ map taken (triples f ws)
+  unfolding triples
+  words-taken [] = refl
+  words-taken (x ∷ []) = refl
+  words-taken (x ∷ y ∷ []) = refl
+  words-taken (x ∷ y ∷ k ∷ ws) = λ i. same x y k i ∷ words-taken ws i
+
+pub words-frames : (ws : List ℕ) → read Frames ws ≡ bootAreas (areasIn ws)
+unfolding areaOf
+words-frames ws = words-taken (λ s e k. record { start = s; end = e; kind = kindOfWord k }) bootArea Frames (λ x y k. refl) ws
+
+pub words-bytes : (ws : List ℕ) → read Bytes ws ≡ bootByteAreas (byteAreasIn ws)
+unfolding areaOf
+words-bytes ws = words-taken (λ a b k. record { address = a; bytes = b; kind = kindOfWord k }) bootByteArea Bytes (λ x y k. refl) ws

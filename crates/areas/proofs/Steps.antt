@@ -92,7 +92,7 @@ module _ (rs : List FrameRange) (a : BootArea) (before after : RangeList) where
   unfolding extents marked allPieces
   pieces-reserved k e = rw k (λ xs p. e ∙ p ∙ ap listed (sym (append-nil xs)))
 
-collected : (xs : List BootArea) (a : BootArea) (c d : Collected) → Collects xs c → Adds c a d → Collects (xs ++ a ∷ []) d
+pub collected : (xs : List BootArea) (a : BootArea) (c d : Collected) → Collects xs c → Adds c a d → Collects (xs ++ a ∷ []) d
 collected xs a c d before s =
     let rs = reserved-in xs a in
     record {
@@ -101,7 +101,7 @@ collected xs a c d before s =
       outside-is = s .outside-is ∙ ap (λ (b : Bool). b || a .outside) (before .outside-is) ∙ sym (outside-over xs a);
     }
 
-carved : (rs : List FrameRange) (xs : List BootArea) (a : BootArea) (before after : RangeList) → before ≡ listed (piecesIn rs xs) → Appended before (piecesIn rs (a ∷ [])) after → after ≡ listed (piecesIn rs (xs ++ a ∷ []))
+pub carved : (rs : List FrameRange) (xs : List BootArea) (a : BootArea) (before after : RangeList) → before ≡ listed (piecesIn rs xs) → Appended before (piecesIn rs (a ∷ [])) after → after ≡ listed (piecesIn rs (xs ++ a ∷ []))
 carved rs xs a before after e s =
     s (piecesIn rs xs) e ∙ ap listed (sym (ap (allPieces rs) (extents-over xs (a ∷ [])) ∙ pieces-over rs (extents xs) (extents (a ∷ []))))
 

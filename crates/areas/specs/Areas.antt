@@ -2,7 +2,7 @@
 use Prim.Native.Nat.{ℕ, zero, suc}
 use mathlib.Core.Path.{_≡_}
 use mathlib.Core.Bool.{Bool, false, _||_}
-use mathlib.Core.List.{List, [], _∷_}
+use mathlib.Core.List.{List, [], _∷_, map}
 use Rattle.memory_structs.specs.Range.{range, isEmpty, aboveTop, touched, bytesOutOfBounds}
 use Rattle.memory_structs.specs.declared.range.FrameRange.{FrameRange}
 use Rattle.model.specs.Lists.{anyOf}
@@ -37,8 +37,8 @@ areasIn ws = triples (λ s e k. record { start = s; end = e; kind = kindOfWord k
 abbrev pub byteAreasIn : List ℕ → List ByteArea
 byteAreasIn ws = triples (λ a b k. record { address = a; bytes = b; kind = kindOfWord k }) ws
 
--- The same in the shape of the code: an area with its test for 2. `frames-read` and `bytes-read` (proofs/Read) say that these are the
--- areas above, and that 2 refuses where the model's test does.
+-- The same in the shape of the code: an area with its test for 2. `frames-taken` and `bytes-taken` (proofs/Read) say that these are the
+-- model's areas, and that 2 refuses where the model's test does.
 
 unfoldable pub frameArea : ℕ → ℕ → Kind → BootArea
 frameArea s e k = record { start = s; end = e; kind = k; outside = aboveTop (range s e) }
@@ -46,6 +46,19 @@ frameArea s e k = record { start = s; end = e; kind = k; outside = aboveTop (ran
 unfoldable pub byteArea : ℕ → ℕ → Kind → BootArea
 byteArea a b k = record { start = touched a b .start; end = touched a b .end; kind = k; outside = bytesOutOfBounds a b }
 
+abbrev pub bootArea : Area → BootArea
+bootArea a = frameArea (a .start) (a .end) (a .kind)
+
+abbrev pub bootByteArea : ByteArea → BootArea
+bootByteArea a = byteArea (a .address) (a .bytes) (a .kind)
+
+abbrev pub bootAreas : List Area → List BootArea
+bootAreas areas = map bootArea areas
+
+abbrev pub bootByteAreas : List ByteArea → List BootArea
+bootByteAreas areas = map bootByteArea areas
+
+-- read of words: the areas that they are (`words-frames`, `words-bytes`)
 unfoldable pub areaOf : AreaUnit → ℕ → ℕ → ℕ → BootArea
 areaOf Frames s e k = frameArea s e (kindOfWord k)
 areaOf Bytes a b k = byteArea a b (kindOfWord k)

@@ -131,7 +131,8 @@ fn area_at(areas: &[u64], i: usize, unit: AreaUnit) -> BootArea
     }
 }
 
-fn kind_of(word: u64) -> Kind
+// A kind as a word: 0 is general, any other number reserved.
+pub fn kind_of(word: u64) -> Kind
     ensures { λ r. ⌜ r ≡ spec.kindOfWord word ⌝ }
 {
     if word == 0 {

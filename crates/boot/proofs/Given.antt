@@ -8,14 +8,18 @@ use lib.Dec.{eqb}
 use lib.ListN.{length}
 use borrow.Author.Tests.{ne-eqb, eqb-true, eqb-false}
 use Rattle.memory_structs.specs.Choice.{if_then_else_}
-use Rattle.model.specs.Lists.{Lists, entries}
+use Rattle.memory_structs.specs.Range.{aboveTop}
+use Rattle.model.specs.Lists.{Lists, entries, anyOf}
 use Rattle.model.specs.Boot as model
 use Rattle.model.specs.Boot.{booted}
 use Rattle.model.specs.Requests.{Result, refused, counted, withoutFrames}
 use Rattle.model.specs.Store.{load, recordOf}
-use Rattle.model.specs.Calls.{Call, Gives, answer, boot, noEntries, shortBuffer}
+use Rattle.model.specs.Calls.{Call, bootCall, bootBytesCall, Gives, answer, boot, noEntries, shortBuffer}
+use Rattle.model.specs.declared.Area.{Area}
+use Rattle.model.specs.declared.ByteArea.{ByteArea}
 use Rattle.model.specs.declared.Called.{Called}
 use Rattle.model.specs.declared.FrameAllocator.{FrameAllocator}
+use Rattle.model.proofs.Boots.{bytes-below}
 use Rattle.model.proofs.Whole.{early-words}
 use Rattle.lists.specs.declared.record.WhichList.{WhichList}
 use Rattle.lists.specs.declared.record.WhichList.the-variants.{GeneralFree, ReservedFree, GeneralRegions, ReservedRegions}
@@ -25,9 +29,12 @@ use Rattle.rules.proofs.Numbers.{gives-refused, gives-stored, gives-unchanged}
 use Rattle.areas.specs.declared.AreaUnit.{AreaUnit}
 use Rattle.areas.specs.declared.AreaUnit.the-variants.{Frames, Bytes}
 use Rattle.areas.specs.declared.BootArea.{BootArea}
-use Rattle.areas.specs.Areas.{read, extents, anyOutside}
-use Rattle.areas.proofs.Read.{frames-read, bytes-read}
-use Rattle.boot.specs.Boots.{callOf, mayBoot, bootedFrom}
+use Rattle.carving.specs.Ranges.{rangesIn}
+use Rattle.areas.specs.Areas.{areasIn, byteAreasIn, bootAreas, bootByteAreas, read, extents, anyOutside}
+use Rattle.areas.proofs.Read.{frames-taken, bytes-taken, words-frames, words-bytes}
+use Rattle.boot.specs.declared.Survey.{Survey}
+use Rattle.boot.specs.Boots.{refusalOf, finished, mayBoot, bootedFrom, bootedWith, Surveys}
+use Rattle.boot.proofs.Numbers.{Bounded, survey-boots}
 
 -- no entries: the four counts come to 0
 pub entries-counted : (l : Lists) {m n o p : ℕ} → m ≡ length (entries (slotsAt GeneralFree l)) → n ≡ length (entries (slotsAt ReservedFree l)) → o ≡ length (entries (slotsAt GeneralRegions l)) → p ≡ length (entries (slotsAt ReservedRegions l)) → not (eqb (m + n + o + p) 0) ≡ not (noEntries l)
@@ -52,55 +59,43 @@ module _ (a : FrameAllocator) (ws : List ℕ) where
   unfolding mayBoot
   may z e = rw (z, e)
 
--- a boot of words is a boot of what is read of them
 abbrev numberOf : List BootArea → ℕ
 numberOf xs = model.refusal (anyOutside xs) (extents xs)
 
-answer-read : (u : AreaUnit) (ws : List ℕ) (l : Lists) → answer (callOf u ws) l ≡ boot (numberOf (read u ws)) (extents (read u ws)) l
-unfolding answer callOf model.bootRefusal model.byteRefusal
-answer-read Frames ws l = sym (λ i. boot (model.refusal (frames-read ws .outside-is i) (frames-read ws .extents-are i)) (frames-read ws .extents-are i) l)
-answer-read Bytes ws l = sym (λ i. boot (model.refusal (bytes-read ws .outside-is i) (bytes-read ws .extents-are i)) (bytes-read ws .extents-are i) l)
+-- the call is a boot of these areas
+pub record IsBoot (c : Call) (xs : List BootArea) : Type 0 where
+  pub answers : (l : Lists) → answer c l ≡ boot (numberOf xs) (extents xs) l
+  pub no-buffer : shortBuffer c ≡ false
 
-no-buffer : (u : AreaUnit) (ws : List ℕ) → shortBuffer (callOf u ws) ≡ false
-unfolding shortBuffer callOf
-no-buffer Frames ws = refl
-no-buffer Bytes ws = refl
-
-module _ (u : AreaUnit) (areas : List ℕ) (a : FrameAllocator) (ws : List ℕ) where
-  abbrev c : Call
-  c = callOf u areas
-
-  abbrev xs : List BootArea
-  xs = read u areas
-
+module _ (c : Call) (xs : List BootArea) (is : IsBoot c xs) (a : FrameAllocator) (ws : List ℕ) where
   -- 10, on lists
   not-empty : noEntries (load a ws) ≡ false → answer c (load a ws) ≡ refused 10 (load a ws)
   unfolding boot
-  not-empty e = answer-read u areas (load a ws) ∙ rw e
+  not-empty e = is .answers (load a ws) ∙ rw e
 
   on-empty : noEntries (load a ws) ≡ true → answer c (load a ws) ≡ (if eqb (numberOf xs) 0 then counted 0 (booted (extents xs)) else refused (numberOf xs) (load a ws))
   unfolding boot
-  on-empty e = answer-read u areas (load a ws) ∙ rw e
+  on-empty e = is .answers (load a ws) ∙ rw e
 
   unchanged-by : (z : checked a ws ≡ 0) (n : ℕ) → answer c (load a ws) ≡ refused n (load a ws) → Gives c a ws (refusedWith n a) ws
   unfolding refused
   unchanged-by z n e =
-      gives-unchanged c a ws (no-buffer u areas) z (withoutFrames n 0) (sym (ap (λ (r : Result). r .answer) e)) (ap (λ (r : Result). r .lists) e)
+      gives-unchanged c a ws (is .no-buffer) z (withoutFrames n 0) (sym (ap (λ (r : Result). r .answer) e)) (ap (λ (r : Result). r .lists) e)
 
-  pub gives-first : (n : ℕ) → n ≡ mayBoot a ws → (n ≡ 0 → ⊥) → Gives c a ws (refusedWith n a) ws
+  gives-first : (n : ℕ) → n ≡ mayBoot a ws → (n ≡ 0 → ⊥) → Gives c a ws (refusedWith n a) ws
   unfolding mayBoot
   gives-first n p z = go (eqb (checked a ws) 0) (noEntries (load a ws)) refl refl p
     where
       go : (x y : Bool) → eqb (checked a ws) 0 ≡ x → noEntries (load a ws) ≡ y → n ≡ (if x then (if y then 0 else 10) else checked a ws) → Gives c a ws (refusedWith n a) ws
       go true true e f q = absurd (z q)
       go true false e f q = subst (λ (m : ℕ). Gives c a ws (refusedWith m a) ws) (sym q) (unchanged-by (eqb-true (checked a ws) 0 e) 10 (not-empty f))
-      go false y e f q = gives-refused c a ws (no-buffer u areas) n q z
+      go false y e f q = gives-refused c a ws (is .no-buffer) n q z
 
   -- the lists filled; the words stay as they are
   stored-by : (z : checked a ws ≡ 0) → answer c (load a ws) ≡ counted 0 (booted (extents xs)) → Gives c a ws (acceptedWith 0 (recordOf (booted (extents xs)))) ws
   unfolding counted booted
   stored-by z e =
-      gives-stored c a ws (no-buffer u areas) z (acceptedWith 0 (recordOf (booted (extents xs)))) ws (sym (ap (λ (r : Result). r .answer) e))
+      gives-stored c a ws (is .no-buffer) z (acceptedWith 0 (recordOf (booted (extents xs)))) ws (sym (ap (λ (r : Result). r .answer) e))
       (sym (ap (λ (r : Result). recordOf (r .lists)) e)) (sym (early-words (answer c (load a ws) .lists) (ap (λ (r : Result). r .lists .sorted) e) ws))
 
   gives-on-empty : checked a ws ≡ 0 → noEntries (load a ws) ≡ true → Gives c a ws (bootedFrom xs a) ws
@@ -112,7 +107,7 @@ module _ (u : AreaUnit) (areas : List ℕ) (a : FrameAllocator) (ws : List ℕ) 
       go true e = stored-by z e
       go false e = unchanged-by z (numberOf xs) e
 
-  pub gives-booted : 0 ≡ mayBoot a ws → Gives c a ws (bootedFrom xs a) ws
+  gives-booted : 0 ≡ mayBoot a ws → Gives c a ws (bootedFrom xs a) ws
   unfolding mayBoot
   gives-booted p = go (eqb (checked a ws) 0) (noEntries (load a ws)) refl refl p
     where
@@ -121,5 +116,44 @@ module _ (u : AreaUnit) (areas : List ℕ) (a : FrameAllocator) (ws : List ℕ) 
       go true false e f q = absurd (omega arith)
       go false y e f q = absurd (eqb-false (checked a ws) 0 e (sym q))
 
-pub gives-as : {c : Call} {a : FrameAllocator} {ws : List ℕ} (called r : Called) (after : List ℕ) → called ≡ r → Gives c a ws r after → Gives c a ws called after
-gives-as {c = c} {a = a} {ws = ws} called r after e g = subst (λ (x : Called). Gives c a ws x after) (sym e) g
+  pub surveyed-gives : (s : Survey) → Surveys xs s → (called : Called) → called ≡ bootedWith s a ws → Gives c a ws called ws
+  unfolding bootedWith
+  surveyed-gives s h called e = subst (λ (x : Called). Gives c a ws x ws) (sym e) (go (eqb (mayBoot a ws) 0) refl)
+    where
+      go : (t : Bool) → eqb (mayBoot a ws) 0 ≡ t → Gives c a ws (if t then (if eqb (refusalOf (s .collected)) 0 then finished (s .pieces) (rangesIn (s .collected .reserved)) a else refusedWith (refusalOf (s .collected)) a) else refusedWith (mayBoot a ws) a) ws
+      go true p = subst (λ (x : Called). Gives c a ws x ws) (sym (survey-boots xs s h a)) (gives-booted (sym (eqb-true (mayBoot a ws) 0 p)))
+      go false p = gives-first (mayBoot a ws) refl (eqb-false (mayBoot a ws) 0 p)
+
+-- a boot of areas, in frames and in bytes
+pub frames-boot : (areas : List Area) → IsBoot (bootCall areas) (bootAreas areas)
+unfolding answer shortBuffer model.bootRefusal
+frames-boot areas =
+    let t = frames-taken areas in
+    record { answers = λ l. sym (λ i. boot (model.refusal (t .outside-is i) (t .extents-are i)) (t .extents-are i) l); no-buffer = refl }
+
+pub bytes-boot : (areas : List ByteArea) → IsBoot (bootBytesCall areas) (bootByteAreas areas)
+unfolding answer shortBuffer model.byteRefusal
+bytes-boot areas =
+    let t = bytes-taken areas in
+    record { answers = λ l. sym (λ i. boot (model.refusal (t .outside-is i) (t .extents-are i)) (t .extents-are i) l); no-buffer = refl }
+
+pub frames-bounded : (areas : List Area) → Bounded (bootAreas areas)
+frames-bounded areas e =
+    let t = frames-taken areas in
+    ap (λ (xs : List model.Extent). anyOf aboveTop (model.ranges xs)) (t .extents-are) ∙ sym (t .outside-is) ∙ e
+
+pub bytes-bounded : (areas : List ByteArea) → Bounded (bootByteAreas areas)
+bytes-bounded areas e =
+    let t = bytes-taken areas in
+    ap (λ (xs : List model.Extent). anyOf aboveTop (model.ranges xs)) (t .extents-are) ∙ bytes-below areas (sym (t .outside-is) ∙ e)
+
+-- of words: of what is read of them
+pub frame-words-boot : (ws : List ℕ) → IsBoot (bootCall (areasIn ws)) (read Frames ws)
+frame-words-boot ws = subst (IsBoot (bootCall (areasIn ws))) (sym (words-frames ws)) (frames-boot (areasIn ws))
+
+pub byte-words-boot : (ws : List ℕ) → IsBoot (bootBytesCall (byteAreasIn ws)) (read Bytes ws)
+byte-words-boot ws = subst (IsBoot (bootBytesCall (byteAreasIn ws))) (sym (words-bytes ws)) (bytes-boot (byteAreasIn ws))
+
+pub words-bounded : (u : AreaUnit) (ws : List ℕ) → Bounded (read u ws)
+words-bounded Frames ws = subst (λ (xs : List BootArea). Bounded xs) (sym (words-frames ws)) (frames-bounded (areasIn ws))
+words-bounded Bytes ws = subst (λ (xs : List BootArea). Bounded xs) (sym (words-bytes ws)) (bytes-bounded (byteAreasIn ws))

@@ -5,8 +5,8 @@ use mathlib.Core.Path.{_≡_, refl, sym, ap, _∙_}
 use mathlib.Core.Bool.{Bool, true, false}
 use mathlib.Core.List.{List, [], _∷_, _++_}
 use lib.ListN.{length}
-use lib.Dec.{leb, ltb}
-use borrow.Author.Tests.{ltb-true, ltb-false, lt-ltb, le-ltb, le-leb, ne-eqb}
+use lib.Dec.{leb, ltb, eqb}
+use borrow.Author.Tests.{ltb-true, ltb-false, lt-ltb, le-ltb, le-leb, ne-eqb, eqb-true, eqb-false}
 use Rattle.memory_structs.specs.Choice.{if_then_else_}
 use Rattle.memory_structs.specs.Range.{isEmpty, aboveTop, top}
 use Rattle.memory_structs.specs.declared.range.FrameRange.{FrameRange}
@@ -16,20 +16,18 @@ use Rattle.model.specs.Boot.{Extent, general, reserved, reservedOf, rangeOf, ra
 use Rattle.model.specs.Boot as model
 use Rattle.model.specs.Store.{recordOf}
 use Rattle.model.specs.declared.FrameAllocator.{FrameAllocator}
-use Rattle.model.proofs.Boots.{bytes-below, join-length}
+use Rattle.model.proofs.Boots.{join-length}
 use Rattle.model.proofs.Joined.{join-apart}
 use Rattle.rules.specs.Check.{refusedWith, acceptedWith}
 use Rattle.carving.specs.declared.RangeList.{RangeList}
 use Rattle.carving.specs.Ranges.{listed, rangesIn, Whole, Carvable}
-use Rattle.carving.proofs.Listed.{count, listed-whole, listed-ranges, whole-length}
-use Rattle.areas.specs.declared.AreaUnit.{AreaUnit}
-use Rattle.areas.specs.declared.AreaUnit.the-variants.{Frames, Bytes}
+use Rattle.carving.proofs.Listed.{count, listed-whole, listed-ranges, listed-counted, whole-length}
 use Rattle.areas.specs.declared.BootArea.{BootArea}
 use Rattle.areas.specs.declared.Collected.{Collected}
-use Rattle.areas.specs.Areas.{byteAreasIn, read, extents, anyOutside, reservedIn, piecesIn, Collects}
-use Rattle.areas.proofs.Read.{frames-read, bytes-read}
+use Rattle.areas.specs.Areas.{extents, anyOutside, reservedIn, piecesIn, Collects}
 use Rattle.filling.specs.Filled.{filled}
-use Rattle.boot.specs.Boots.{refusalOf, finished, bootedFrom}
+use Rattle.boot.specs.declared.Survey.{Survey}
+use Rattle.boot.specs.Boots.{mayBoot, refusalOf, finished, bootedFrom, bootedWith, CarvedOut, Surveys, Joinable, Ready}
 
 -- an area that passes 2 ends at or below the top
 reserved-low : (xs : List Extent) → anyOf aboveTop (ranges xs) ≡ false → allOf (λ r. leb (r .end) top) (reservedOf xs) ≡ true
@@ -40,9 +38,9 @@ reserved-low (reserved r ∷ xs) e =
     let low : r .end ≤ top = omega (arith, ltb-false top (max (r .start) (r .end)) (neither-first (aboveTop r) (anyOf aboveTop (ranges xs)) e)) in
     rw (le-leb (r .end) top low) (reserved-low xs (neither-second (aboveTop r) (anyOf aboveTop (ranges xs)) e))
 
-read-low : (u : AreaUnit) (ws : List ℕ) → anyOutside (read u ws) ≡ false → anyOf aboveTop (ranges (extents (read u ws))) ≡ false
-read-low Frames ws e = ap (λ (xs : List Extent). anyOf aboveTop (ranges xs)) (frames-read ws .extents-are) ∙ sym (frames-read ws .outside-is) ∙ e
-read-low Bytes ws e = ap (λ (xs : List Extent). anyOf aboveTop (ranges xs)) (bytes-read ws .extents-are) ∙ bytes-below (byteAreasIn ws) (sym (bytes-read ws .outside-is) ∙ e)
+-- areas of which 2 refuses none end at or below the top
+abbrev pub Bounded : List BootArea → Type 0
+Bounded xs = anyOutside xs ≡ false → anyOf aboveTop (ranges (extents xs)) ≡ false
 
 -- 5, 4 and 2 by what is collected, test by test
 module _ (c : Collected) where
@@ -80,21 +78,36 @@ passed c z = go (ltb 32 (c .reserved .len)) (c .«any_empty») (c .«any_outside
     go false false false p q r e = record { few = ltb-false 32 (c .reserved .len) p; filled = q; inside = r }
 
 -- the reserved areas that are collected may be carved out
-module _ (u : AreaUnit) (ws : List ℕ) (c : Collected) (h : Collects (read u ws) c) (z : refusalOf c ≡ 0) where
-  pub reserved-are : rangesIn (c .reserved) ≡ reservedIn (read u ws)
-  reserved-are = listed-ranges (c .reserved) (reservedIn (read u ws)) (passed c z .few) (h .reserved-are)
+module _ (xs : List BootArea) (c : Collected) (h : Collects xs c) (z : refusalOf c ≡ 0) where
+  pub reserved-are : rangesIn (c .reserved) ≡ reservedIn xs
+  reserved-are = listed-ranges (c .reserved) (reservedIn xs) (passed c z .few) (h .reserved-are)
 
-  pub may-carve : Carvable (c .reserved)
-  may-carve =
+  pub may-carve : Bounded xs → Carvable (c .reserved)
+  may-carve low =
       let p = passed c z in
       record {
         few = p .few;
         filled = ap (anyOf isEmpty) reserved-are ∙ sym (h .empty-is) ∙ p .filled;
-        low = ap (allOf (λ r. leb (r .end) top)) reserved-are ∙ reserved-low (extents (read u ws)) (read-low u ws (sym (h .outside-is) ∙ p .inside));
+        low = ap (allOf (λ r. leb (r .end) top)) reserved-are ∙ reserved-low (extents xs) (low (sym (h .outside-is) ∙ p .inside));
       }
 
   pub may-join : Whole (c .reserved)
-  may-join = listed-whole (c .reserved) (reservedIn (read u ws)) (omega (arith, passed c z .few, count (c .reserved) (reservedIn (read u ws)) (h .reserved-are))) (h .reserved-are)
+  may-join = listed-whole (c .reserved) (reservedIn xs) (omega (arith, passed c z .few, count (c .reserved) (reservedIn xs) (h .reserved-are))) (h .reserved-are)
+
+-- no reserved areas
+pub none-carvable : (l : RangeList) → l ≡ listed [] → Carvable l
+unfolding anyOf allOf
+none-carvable l e =
+    let few : l .len ≤ 32 = omega (arith, count l [] e) in
+    let none = listed-ranges l [] few e in
+    record { few = few; filled = ap (anyOf isEmpty) none; low = ap (allOf (λ r. leb (r .end) top)) none }
+
+-- collected and carved
+pub surveyed : (xs : List BootArea) (c : Collected) → Collects xs c → (r : RangeList) → CarvedOut c r → (pieces : RangeList) → pieces ≡ listed (piecesIn (rangesIn r) xs) → Surveys xs (record { collected = c; pieces = pieces })
+surveyed xs c h r o pieces e = record {
+  collects = h;
+  carves = λ z. e ∙ ap (λ (l : RangeList). listed (piecesIn (rangesIn l) xs)) (o .same z) ∙ ap (λ (rs : List FrameRange). listed (piecesIn rs xs)) (reserved-are xs c h z);
+}
 
 -- a count that stops at 33 is above 32 where the number is
 above-32 : (m n : ℕ) → m ≡ min 33 n → ltb 32 m ≡ ltb 32 n
@@ -160,13 +173,34 @@ module _ (xs : List BootArea) (c : Collected) (h : Collects xs c) (a : FrameAllo
       go false true p q many = rw (many, p, listed-ranges pieces ps (ltb-false 32 (pieces .len) (many ∙ p)) e, q) (boots (to-last z ∙ rw (p, q)))
       go false false p q many = rw (many, p, listed-ranges pieces ps (ltb-false 32 (pieces .len) (many ∙ p)) e, q) (refused-by 6 (to-last z ∙ rw (p, q)) (λ w. omega arith))
 
--- the pieces as they were carved
-pub carved-then : (u : AreaUnit) (ws : List ℕ) (c : Collected) → Collects (read u ws) c → refusalOf c ≡ 0 → (a : FrameAllocator) (pieces : RangeList) →
-    pieces ≡ listed (piecesIn (rangesIn (c .reserved)) (read u ws)) → finished pieces (rangesIn (c .reserved)) a ≡ bootedFrom (read u ws) a
-carved-then u ws c h z a pieces e =
-    let same = reserved-are u ws c h z in
-    ap (λ (rs : List FrameRange). finished pieces rs a) same
-    ∙ last-refusals (read u ws) c h a z pieces (e ∙ ap (λ (rs : List FrameRange). listed (piecesIn rs (read u ws))) same)
+-- what is surveyed of these areas boots as they do
+module _ (xs : List BootArea) (s : Survey) (h : Surveys xs s) where
+  pub survey-ready : Ready s
+  survey-ready z = record { counted = listed-counted _ _ (h .carves z); whole = may-join xs (s .collected) (h .collects) z }
+
+  pub survey-boots : (a : FrameAllocator) → (if eqb (refusalOf (s .collected)) 0 then finished (s .pieces) (rangesIn (s .collected .reserved)) a else refusedWith (refusalOf (s .collected)) a) ≡ bootedFrom xs a
+  survey-boots a = go (eqb (refusalOf (s .collected)) 0) refl
+    where
+      go : (t : Bool) → eqb (refusalOf (s .collected)) 0 ≡ t → (if t then finished (s .pieces) (rangesIn (s .collected .reserved)) a else refusedWith (refusalOf (s .collected)) a) ≡ bootedFrom xs a
+      go true e =
+          let z = eqb-true (refusalOf (s .collected)) 0 e in
+          ap (λ (rs : List FrameRange). finished (s .pieces) rs a) (reserved-are xs (s .collected) (h .collects) z)
+          ∙ last-refusals xs (s .collected) (h .collects) a z (s .pieces) (h .carves z)
+      go false e = first-refusals xs (s .collected) (h .collects) a (refusalOf (s .collected)) refl (eqb-false (refusalOf (s .collected)) 0 e)
+
+-- a boot's numbers, test by test
+module _ (s : Survey) (a : FrameAllocator) (ws : List ℕ) where
+  pub refused-first : (n : ℕ) → n ≡ mayBoot a ws → (n ≡ 0 → ⊥) → refusedWith n a ≡ bootedWith s a ws
+  unfolding bootedWith
+  refused-first n e z = rw (ne-eqb (mayBoot a ws) 0 (λ p. z (e ∙ p))) (ap (λ (m : ℕ). refusedWith m a) e)
+
+  pub refused-then : mayBoot a ws ≡ 0 → (n : ℕ) → n ≡ refusalOf (s .collected) → (n ≡ 0 → ⊥) → refusedWith n a ≡ bootedWith s a ws
+  unfolding bootedWith
+  refused-then m n e z = rw (m, ne-eqb (refusalOf (s .collected)) 0 (λ p. z (e ∙ p))) (ap (λ (k : ℕ). refusedWith k a) e)
+
+  pub finished-last : mayBoot a ws ≡ 0 → refusalOf (s .collected) ≡ 0 → finished (s .pieces) (rangesIn (s .collected .reserved)) a ≡ bootedWith s a ws
+  unfolding bootedWith
+  finished-last m z = rw (m, z)
 
 -- 7 and 6, test by test
 module _ (pieces reserved joined : RangeList) (a : FrameAllocator) (w : Whole reserved) (j : joined ≡ listed (join (rangesIn reserved))) where

@@ -1,29 +1,24 @@
 -- Boot in the shape of its code. The words in quotes are document 01's.
 use Prim.Native.Nat.{ℕ}
+use mathlib.Core.Path.{_≡_}
 use mathlib.Core.List.{List, _++_}
 use lib.Dec.{ltb, eqb}
 use Rattle.memory_structs.specs.Choice.{if_then_else_}
 use Rattle.memory_structs.specs.declared.range.FrameRange.{FrameRange}
 use Rattle.model.specs.Lists.{disjoint}
 use Rattle.model.specs.Boot as model
-use Rattle.model.specs.Calls.{Call, bootCall, bootBytesCall, noEntries}
+use Rattle.model.specs.Calls.{noEntries}
 use Rattle.model.specs.Store.{load, recordOf}
 use Rattle.model.specs.declared.Called.{Called}
 use Rattle.model.specs.declared.FrameAllocator.{FrameAllocator}
 use Rattle.rules.specs.Check.{checked, refusedWith, acceptedWith}
 use Rattle.carving.specs.declared.RangeList.{RangeList}
-use Rattle.carving.specs.Ranges.{rangesIn}
-use Rattle.areas.specs.declared.AreaUnit.{AreaUnit}
-use Rattle.areas.specs.declared.AreaUnit.the-variants.{Frames, Bytes}
+use Rattle.carving.specs.Ranges.{listed, rangesIn, Carvable, Counted, Whole}
 use Rattle.areas.specs.declared.BootArea.{BootArea}
 use Rattle.areas.specs.declared.Collected.{Collected}
-use Rattle.areas.specs.Areas.{areasIn, byteAreasIn, extents, anyOutside}
+use Rattle.areas.specs.Areas.{extents, anyOutside, reservedIn, piecesIn, Collects}
+use Rattle.boot.specs.declared.Survey.{Survey}
 use Rattle.filling.specs.Filled.{filled}
-
--- the call that the words of a list of areas make
-unfoldable pub callOf : AreaUnit → List ℕ → Call
-callOf Frames ws = bootCall (areasIn ws)
-callOf Bytes ws = bootBytesCall (byteAreasIn ws)
 
 -- "Order: 3, 11; boot then 10"
 unfoldable pub mayBoot : FrameAllocator → List ℕ → ℕ
@@ -47,3 +42,33 @@ unfoldable pub bootedFrom : List BootArea → FrameAllocator → Called
 bootedFrom xs a =
     if eqb (model.refusal (anyOutside xs) (extents xs)) 0 then acceptedWith 0 (recordOf (model.booted (extents xs)))
     else refusedWith (model.refusal (anyOutside xs) (extents xs)) a
+
+-- reserved areas that 5, 4 and 2 let pass may be carved out
+abbrev pub Sound : Collected → Type 0
+Sound c = refusalOf c ≡ 0 → Carvable (c .reserved)
+
+-- the reserved areas to carve out
+pub record CarvedOut (c : Collected) (r : RangeList) : Type 0 where
+  pub carvable : Carvable r
+  pub same : refusalOf c ≡ 0 → r ≡ c .reserved
+
+-- what is known of these areas before the record is looked at
+pub record Surveys (xs : List BootArea) (s : Survey) : Type 0 where
+  pub collects : Collects xs (s .collected)
+  pub carves : refusalOf (s .collected) ≡ 0 → s .pieces ≡ listed (piecesIn (reservedIn xs) xs)
+
+-- what 7 and 6 need of it
+pub record Joinable (s : Survey) : Type 0 where
+  pub counted : Counted (s .pieces)
+  pub whole : Whole (s .collected .reserved)
+
+abbrev pub Ready : Survey → Type 0
+Ready s = refusalOf (s .collected) ≡ 0 → Joinable s
+
+-- "Order: 3, 11; boot then 10, 5, 4, 2, 7, 6"
+unfoldable pub bootedWith : Survey → FrameAllocator → List ℕ → Called
+bootedWith s a ws =
+    if eqb (mayBoot a ws) 0 then
+    (if eqb (refusalOf (s .collected)) 0 then finished (s .pieces) (rangesIn (s .collected .reserved)) a
+    else refusedWith (refusalOf (s .collected)) a)
+    else refusedWith (mayBoot a ws) a

@@ -7,6 +7,7 @@ ghost use Rattle.rules.specs.Check.{Ruled};
 ghost use Rattle.carving.specs.Ranges.{rangesIn, Whole, Counted};
 ghost use Rattle.areas.specs.Areas.{read, areasIn, byteAreasIn};
 ghost use Rattle.boot.specs.Boots as spec;
+ghost use Rattle.boot.specs.Boots.{Sound, CarvedOut, Surveys, Ready};
 use areas::AreaUnit;
 use areas::Collected;
 use carving::RangeList;
@@ -14,32 +15,66 @@ use lists::WhichList;
 use model::Called;
 use model::FrameAllocator;
 
-// Boots from areas given as first frame, last frame and kind. The workspace is tested where the record is sorted, and never written.
+// What a boot needs of its areas, in whatever form they come: the reserved ones with what 5, 4 and 2 look at, and the pieces of the
+// general ones.
+pub struct Survey {
+    pub collected: Collected,
+    pub pieces: RangeList,
+}
+
+// Boots from areas given as first frame, last frame and kind. The workspace has 4,096 words in either form, else 3; it is read only in
+// sorted form, and never written.
 pub fn init(a: FrameAllocator, areas: &[u64], words: &[u64]) -> Called
     ensures { λ r. ⌜ Gives (bootCall (areasIn (now (areas .entry)))) a (now (words .entry)) r (now (words .entry)) ⌝ }
 {
-    boot(a, areas, AreaUnit::Frames, words)
+    boot_surveyed(a, survey_words(areas, AreaUnit::Frames), words)
 }
 
 // Boots from areas given as address, size in bytes and kind.
 pub fn init_from_bytes(a: FrameAllocator, areas: &[u64], words: &[u64]) -> Called
     ensures { λ r. ⌜ Gives (bootBytesCall (byteAreasIn (now (areas .entry)))) a (now (words .entry)) r (now (words .entry)) ⌝ }
 {
-    boot(a, areas, AreaUnit::Bytes, words)
+    boot_surveyed(a, survey_words(areas, AreaUnit::Bytes), words)
 }
 
-fn boot(a: FrameAllocator, areas: &[u64], unit: AreaUnit, words: &[u64]) -> Called
-    ensures { λ r. ⌜ Gives (spec.callOf unit (now (areas .entry))) a (now (words .entry)) r (now (words .entry)) ⌝ }
+fn survey_words(areas: &[u64], unit: AreaUnit) -> Survey
+    ensures { λ r. ⌜ Surveys (read unit (now (areas .entry))) r ⌝ }
+{
+    let collected = areas::collect(areas, unit);
+    let pieces = areas::carve(areas, unit, carvable(collected));
+    Survey { collected, pieces }
+}
+
+// The reserved areas where they may be carved out; none where 5, 4 or 2 refuses the boot, and its pieces are not looked at.
+pub fn carvable(c: Collected) -> RangeList
+    requires { ⌜ Sound c ⌝ }
+    ensures { λ r. ⌜ CarvedOut c r ⌝ }
+{
+    if refusal(c) != 0 {
+        return carving::no_ranges();
+    }
+    c.reserved
+}
+
+// 3, 11 and 10; then 5, 4 and 2; then 7 and 6, or the record with its lists filled.
+pub fn boot_surveyed(a: FrameAllocator, s: Survey, words: &[u64]) -> Called
+    requires { ⌜ Ready s ⌝ }
+    ensures { λ r. ⌜ r ≡ spec.bootedWith s a (now (words .entry)) ⌝ }
 {
     let number = may_boot(a, words);
     if number != 0 {
         return rules::refused(a, number);
     }
-    boot_areas(a, areas, unit)
+    let collected = s.collected;
+    let number = refusal(collected);
+    if number != 0 {
+        return rules::refused(a, number);
+    }
+    finish(a, s.pieces, collected.reserved)
 }
 
 // 3, 11, and 10: "boot, and any list is not empty".
-pub fn may_boot(a: FrameAllocator, words: &[u64]) -> u64
+fn may_boot(a: FrameAllocator, words: &[u64]) -> u64
     ensures { λ r. ⌜ r ≡ spec.mayBoot a (now (words .entry)) ⌝ }
 {
     let number = rules::check(a, words);
@@ -60,22 +95,8 @@ fn has_entries(a: FrameAllocator, words: &[u64]) -> bool
     general_chunks + reserved_chunks + general_regions + reserved_regions != 0
 }
 
-// Boots a record whose lists are empty.
-fn boot_areas(a: FrameAllocator, areas: &[u64], unit: AreaUnit) -> Called
-    ensures { λ r. ⌜ r ≡ spec.bootedFrom (read unit (now (areas .entry))) a ⌝ }
-{
-    let collected = areas::collect(areas, unit);
-    let number = refusal(collected);
-    if number != 0 {
-        return rules::refused(a, number);
-    }
-    let reserved = collected.reserved;
-    let pieces = areas::carve(areas, unit, reserved);
-    finish(a, pieces, reserved)
-}
-
 // 5, 4 and 2, in this order: what refuses a boot before any area is carved.
-pub fn refusal(c: Collected) -> u64
+fn refusal(c: Collected) -> u64
     ensures { λ r. ⌜ r ≡ spec.refusalOf c ⌝ }
 {
     if 32 < c.reserved.len {
@@ -91,7 +112,7 @@ pub fn refusal(c: Collected) -> u64
 }
 
 // 7 and 6, or the record with its lists filled.
-pub fn finish(a: FrameAllocator, pieces: RangeList, reserved: RangeList) -> Called
+fn finish(a: FrameAllocator, pieces: RangeList, reserved: RangeList) -> Called
     requires { ⌜ Counted pieces ⌝ }
     requires { ⌜ Whole reserved ⌝ }
     ensures { λ r. ⌜ r ≡ spec.finished pieces (rangesIn reserved) a ⌝ }

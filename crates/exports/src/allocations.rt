@@ -1,5 +1,4 @@
-// Requests: document 01, "How a request is met". The record goes in and comes back by value, and a `bool` of it is a byte that is 0 or 1;
-// the workspace is lent, and C sees it as a pointer and its number of words. A frame is named by its number, not by its address.
+// Requests: document 01, "How a request is met". A frame is named by its number, not by its address.
 ghost use Rattle.model.specs.Calls.{Gives, countCall, countBytesCall, addressCall, addressBytesCall, generalCall};
 use model::Called;
 use model::FrameAllocator;
@@ -28,7 +27,7 @@ pub extern "C" fn likhmout_allocate_frames_by_bytes(
     requests::allocate_frames_by_bytes(allocator, words, num_bytes)
 }
 
-// The frames from this one on.
+// The frames from this one on. Where no list knows them they become a reserved region, for good.
 #[no_mangle]
 pub extern "C" fn likhmout_allocate_frames_at(
     allocator: FrameAllocator,
@@ -54,7 +53,7 @@ pub extern "C" fn likhmout_allocate_frames_by_bytes_at(
     requests::allocate_frames_by_bytes_at(allocator, words, address, num_bytes)
 }
 
-// The frames from this one on, if they are general.
+// The frames from this one on, if they are general and free.
 #[no_mangle]
 pub extern "C" fn likhmout_allocate_general_frames_at(
     allocator: FrameAllocator,

@@ -1,5 +1,4 @@
 // Boot: document 01, "Boot". The areas are words, three to an area, the third of them the kind: 0 is general, any other number reserved.
-// C sees a slice as a pointer and its number of words. The record goes in and comes back by value; a `bool` of it is a byte that is 0 or 1.
 ghost use Rattle.model.specs.Calls.{Gives, bootCall, bootBytesCall};
 ghost use Rattle.areas.specs.Areas.{areasIn, byteAreasIn};
 use model::Called;

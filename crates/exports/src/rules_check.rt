@@ -1,5 +1,5 @@
 // The test of a record and its workspace: the one that a call of the allocator makes before anything else, but for the length of the
-// held list's buffer. A `bool` of the record is a byte that is 0 or 1; C sees the words as a pointer and their number.
+// held list's buffer.
 ghost use mathlib.Core.Path.{_≡_};
 ghost use Rattle.rules.specs.Check.{checked};
 use model::FrameAllocator;

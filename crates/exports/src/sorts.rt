@@ -1,5 +1,5 @@
-// Sort: document 01, "sort". The record goes in and comes back by value, and a `bool` of it is a byte that is 0 or 1; the workspace is
-// lent, and C sees it as a pointer and its number of words. A sort writes the first 4,096 of them, all four tables.
+// Sort: document 01, "sort". From early form it writes the first 4,096 words; from then on the lists are there, and the words must be
+// kept.
 ghost use Rattle.model.specs.Calls.{Gives, sortCall};
 use model::Called;
 use model::FrameAllocator;

@@ -1,10 +1,38 @@
-// The public face: every call of document 01. A call that changes the record changes it in place; a question reads it.
-ghost use Rattle.model.specs.Calls.{sortCall, Gives};
+// The public face: every call of document 01. A call that changes the record changes it in place; a question takes a copy.
+ghost use Rattle.model.specs.Calls.{bootCall, bootBytesCall, sortCall, returnCall, Gives};
 ghost use Rattle.requests.specs.Asked.{callOf};
 ghost use Rattle.frame_allocator.specs.InPlace.{changed};
+pub use lists::fresh;
+use memory_structs::FrameRange;
 use model::Answer;
+use model::Area;
+use model::ByteArea;
 use model::FrameAllocator;
-use requests::Request;
+pub use queries::free_total;
+pub use queries::held_list;
+pub use queries::kind_of_range;
+pub use requests::Request;
+
+// Boots from areas given as first frame, last frame and kind. The workspace has 4,096 words in either form, else 3; it is read only in
+// sorted form, and never written.
+pub fn init(a: &mut FrameAllocator, areas: &[Area], words: &[u64]) -> Answer
+    ensures { λ r. ⌜ Gives (bootCall (now (areas .entry))) (now (a .entry)) (now (words .entry)) (changed r (now (a .exit))) (now (words .entry)) ⌝ }
+{
+    let survey = maps::frame_map::survey(areas);
+    let booted = boot::boot_surveyed(*a, survey, words);
+    *a = booted.allocator;
+    booted.answer
+}
+
+// Boots from areas given as address, size in bytes and kind.
+pub fn init_from_bytes(a: &mut FrameAllocator, areas: &[ByteArea], words: &[u64]) -> Answer
+    ensures { λ r. ⌜ Gives (bootBytesCall (now (areas .entry))) (now (a .entry)) (now (words .entry)) (changed r (now (a .exit))) (now (words .entry)) ⌝ }
+{
+    let survey = maps::byte_map::survey(areas);
+    let booted = boot::boot_surveyed(*a, survey, words);
+    *a = booted.allocator;
+    booted.answer
+}
 
 // A request: document 01, "How a request is met".
 pub fn allocate(a: &mut FrameAllocator, words: &mut [u64], request: Request) -> Answer
@@ -19,7 +47,16 @@ pub fn allocate(a: &mut FrameAllocator, words: &mut [u64], request: Request) -> 
 pub fn convert_frame_allocator_to_heap_based(a: &mut FrameAllocator, words: &mut [u64]) -> Answer
     ensures { λ r. ⌜ Gives sortCall (now (a .entry)) (now (words .entry)) (changed r (now (a .exit))) (now (words .exit)) ⌝ }
 {
-    let called = sort::convert_frame_allocator_to_heap_based(*a, words);
-    *a = called.allocator;
-    called.answer
+    let sorted = sort::convert_frame_allocator_to_heap_based(*a, words);
+    *a = sorted.allocator;
+    sorted.answer
+}
+
+// A return: the frames of the range are free again.
+pub fn return_frames(a: &mut FrameAllocator, words: &mut [u64], range: FrameRange) -> Answer
+    ensures { λ r. ⌜ Gives (returnCall range) (now (a .entry)) (now (words .entry)) (changed r (now (a .exit))) (now (words .exit)) ⌝ }
+{
+    let returned = returns::return_frames(*a, words, range);
+    *a = returned.allocator;
+    returned.answer
 }

@@ -9,8 +9,9 @@ ghost use Rattle.framebench.specs.Ready.{Ready};
 use bench_areas::AreaCounts;
 use bench_areas::Collecting;
 use bench_lines::Command;
-use lines::written;
+use libc::STDOUT_FILENO;
 use lists::WhichList;
+use memory_structs::FrameRange;
 use model::Area;
 use model::Called;
 use model::FrameAllocator;
@@ -50,7 +51,11 @@ pub fn answer(b: Bench, line: &[u8], out: &mut [u8], areas: &mut [u64], words: &
             out,
             requests::allocate_frames_at(b.allocator, words, frame, n),
         ),
-        Command::Give(_, _) => bad(b),
+        Command::Give(start, end) => tell(
+            b,
+            out,
+            returns::return_frames(b.allocator, words, FrameRange::new(start, end)),
+        ),
         Command::Lists => list(b, out, words),
         Command::Bad => bad(b),
     }
@@ -83,7 +88,7 @@ fn tell(b: Bench, out: &mut [u8], called: Called) -> Bench
     ensures { λ r. ⌜ r .counts ≡ b .counts ⌝ }
 {
     let len = bench_texts::write_answer(out, called.answer);
-    written::text(&out[..len]);
+    print(&out[..len]);
     let allocator = called.allocator;
     let counts = b.counts;
     Bench { allocator, counts }
@@ -111,12 +116,16 @@ fn print_list(out: &mut [u8], a: FrameAllocator, words: &[u64], which: WhichList
     requires { ⌜ lineRoom ≤ length (now out) ⌝ }
 {
     let len = bench_lists::write_list(out, a, words, which);
-    written::text(&out[..len]);
+    print(&out[..len]);
 }
 
 fn bad(b: Bench) -> Bench
     ensures { λ r. ⌜ r .counts ≡ b .counts ⌝ }
 {
-    written::bad();
+    print(b"(bad)\n");
     b
+}
+
+fn print(text: &[u8]) {
+    io::write_all(STDOUT_FILENO, text);
 }

@@ -32,16 +32,6 @@ no-leftover a b h = rw (le-ltb a b h)
 pub leftover-bound : (a b : ℕ) → leftover a b ≤ 1
 leftover-bound a b = if-cases (λ (n : ℕ). n ≤ 1) (ltb a b) (λ e. omega arith) (λ e. omega arith)
 
-few-used : (s : List Slot) → length (entries s) ≤ length s
-unfolding entries
-few-used [] = omega arith
-few-used (unused ∷ s) = omega (arith, few-used s)
-few-used (used r ∷ s) = omega (arith, few-used s)
-
-pub few-entries : {b : Bool} {s : List Slot} → Storable b s → length (entries s) ≤ 512
-few-entries {s = s} (early h) = omega (arith, few-used s)
-few-entries {s = s} (sorted u h) = omega (arith, few-used s)
-
 -- a slot whose range has a frame is used: emptied, it is one entry less
 one-emptied : (i : ℕ) (s : List Slot) → rangeAt s i .start ≤ rangeAt s i .end → length (entries (removeOne false i s)) + 1 ≡ length (entries s)
 unfolding removeOne rangeAt entries

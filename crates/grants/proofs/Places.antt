@@ -36,12 +36,6 @@ drop-replaced i zero r (x ∷ s) h = absurd (omega arith)
 drop-replaced zero (suc n) r (x ∷ s) h = refl
 drop-replaced (suc i) (suc n) r (x ∷ s) h = drop-replaced i n r s (omega arith)
 
-pub length-replaced : (i : ℕ) (r : FrameRange) (s : List Slot) → length (replaceAt i r s) ≡ length s
-unfolding replaceAt
-length-replaced i r [] = refl
-length-replaced zero r (x ∷ s) = refl
-length-replaced (suc i) r (x ∷ s) = ap suc (length-replaced i r s)
-
 module _ (i k : ℕ) (r : FrameRange) (s : List Slot) (some : 0 < k) (fits : i + k ≤ length s) where
   sum-same : i + 1 + (k - 1) ≡ i + k
   sum-same = omega arith

@@ -1,5 +1,5 @@
 -- A table whose chosen pairs are rewritten where they stand.
-use Prim.Native.Nat.{ℕ, zero, suc, _+_, _-_, _≤_, _<_}
+use Prim.Native.Nat.{ℕ, _+_, _-_, _≤_, _<_}
 use native.Mathlib.Omega.{arith}
 use mathlib.Core.Path.{_≡_, sym, ap, subst, _∙_}
 use mathlib.Core.Bool.{true}
@@ -10,23 +10,17 @@ use Rattle.memory_structs.specs.declared.range.FrameRange.{FrameRange}
 use Rattle.model.specs.Lists.{Slot, used, insert, insertSorted, remove, replaceAt}
 use Rattle.model.specs.Rules.{rising, slotted, tidy}
 use Rattle.model.specs.Store.{tableSlots, tableWords}
-use Rattle.model.proofs.Stored.{AllUsed, none, one, table-length, table-used, table-again}
+use Rattle.model.proofs.Stored.{table-length, table-used, table-again}
 use Rattle.tables.specs.Words.{IsTable}
 use Rattle.tables.proofs.Table.{is-table}
 use Rattle.tables.proofs.Spaced.{tidy-spaced}
 use Rattle.tables.proofs.Touching.{tidy-rising}
-use Rattle.lists.proofs.One.{length-removed}
-use Rattle.lists.proofs.Again.{removed-slotted, inserted-slotted}
+use Rattle.lists.proofs.One.{length-removed, length-replaced}
+use Rattle.lists.proofs.Again.{removed-slotted, inserted-slotted, replaced-used}
 use Rattle.grants.specs.declared.Chosen.{Chosen}
 use Rattle.grants.specs.Grants.{Chooses, instead, TableOf}
-use Rattle.grants.proofs.Places.{length-instead, length-replaced, replaced-then, replaced-removed, replaced-one}
+use Rattle.grants.proofs.Places.{length-instead, replaced-then, replaced-removed, replaced-one}
 use Rattle.grants.proofs.Grant.{put-one, put-two}
-
-replaced-used : (i : ℕ) (r : FrameRange) {s : List Slot} → AllUsed s → AllUsed (replaceAt i r s)
-unfolding replaceAt
-replaced-used i r none = none
-replaced-used zero r (one u) = one u
-replaced-used (suc i) r (one u) = one (replaced-used i r u)
 
 -- the slots in place of the k slots from i on, and the length with them
 table-of : (len i k : ℕ) (new : List Slot) (ws after : List ℕ) → i + k ≤ len → (n : ℕ) → n ≡ len - k + length new

@@ -67,7 +67,7 @@ fn growth_refusal(a: FrameAllocator, words: &[u64], start: u64, end: u64) -> u64
     0
 }
 
-// 18: a list of regions that is full, "early growth also when either reserved list has 32 already".
+// 18: the reserved regions are full, "early growth also when either reserved list has 32 already".
 fn no_room_to_grow(a: FrameAllocator, words: &[u64]) -> bool
     requires { ⌜ Ruled a (now words) ⌝ }
     ensures { λ r. ⌜ r ≡ noRoomToGrow (load a (now (words .entry))) ⌝ }

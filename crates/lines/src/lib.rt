@@ -1,11 +1,9 @@
-// The words of a line of text, parted by one space: numbers in decimal, below 2^64, and kinds of areas, read into lent words; and words
-// written to a line. For the programs that replay the Rust's answers.
+// The words of a line of text, parted by one space: numbers in decimal, below 2^64, and kinds of areas, read into lent words. For the
+// programs that replay the Rust's answers.
 ghost use mathlib.Core.Path.{_≡_};
 ghost use Prim.Native.Nat.{_≤_};
 ghost use lib.ListN.{length, drop};
 ghost use Rattle.lines.specs.Words as words;
-
-pub mod written;
 
 // What the words that follow a name are: numbers, or areas of two numbers and a kind each.
 pub enum Layout {

@@ -8,18 +8,19 @@ use lib.ListN.{length}
 use lib.Dec.{ltb}
 use Rattle.memory_structs.proofs.Bools.{if-cases}
 use Rattle.memory_structs.specs.declared.range.FrameRange.{FrameRange}
-use Rattle.model.specs.Lists.{Slot, entries, bound, insert, insertSorted, remove, removeOne}
+use Rattle.model.specs.Lists.{Slot, entries, bound, insert, insertSorted, remove, removeOne, replaceAt}
 use Rattle.model.specs.Rules.{slotted}
 use Rattle.model.specs.Store.{wordsIn}
 use Rattle.model.specs.Store as store
 use Rattle.model.proofs.Cover.{early-length, remove-length}
 use Rattle.model.proofs.Lawful.{Slots, sorted-rising, remove-rising}
 use Rattle.model.proofs.Ruled.{slotted-is, is-slotted}
+use Rattle.model.proofs.Plainly.{fewer-entries}
 use Rattle.model.proofs.Stored.{AllUsed, none, one, Storable, early, sorted, part-length, slots-again, stored-test, test-kept}
 use Rattle.model.proofs.Whole.{used-count}
+use Rattle.tables.proofs.Search.{length-inserted}
 use Rattle.lists.specs.declared.OneList.{OneList}
 use Rattle.lists.specs.One.{IsList, slotsIn, oneOf, Stored}
-use Rattle.lists.proofs.One.{length-inserted}
 
 -- a list stores its slots, and nothing else
 module _ (l : OneList) (ws : List ℕ) (t : IsList l ws) where
@@ -33,6 +34,11 @@ module _ (l : OneList) (ws : List ℕ) (t : IsList l ws) where
         list = λ i. record { sorted = l .sorted; early = sym (k .slots) i; len = sym (k .len) i };
         words = sym (k .words);
       }
+
+-- no list has more entries than a table
+pub few-entries : {b : Bool} {s : List Slot} → Storable b s → length (entries s) ≤ 512
+few-entries {s = s} (early h) = omega (arith, fewer-entries s)
+few-entries {s = s} (sorted u h) = omega (arith, fewer-entries s)
 
 -- what is stored later stands instead of what was stored before
 over : (b : Bool) (s t : List Slot) (w : List ℕ) → wordsIn b t (wordsIn b s w) ≡ wordsIn b t w
@@ -118,6 +124,13 @@ inserted-slots false r s a = early-length r s ∙ a
 
 pub inserted-slotted : (b : Bool) (r : FrameRange) (s : List Slot) → slotted b s ≡ true → slotted b (insert b r s) ≡ true
 inserted-slotted b r s e = is-slotted b (insert b r s) (inserted-slots b r s (slotted-is b s e))
+
+-- an entry rewritten where it stands
+pub replaced-used : (i : ℕ) (r : FrameRange) {s : List Slot} → AllUsed s → AllUsed (replaceAt i r s)
+unfolding replaceAt
+replaced-used i r none = none
+replaced-used zero r (one u) = one u
+replaced-used (suc i) r (one u) = one (replaced-used i r u)
 
 -- a list after a removal, and after an insert
 module _ (l : OneList) (before : List ℕ) (t : IsList l before) {r : OneList} {after : List ℕ} where

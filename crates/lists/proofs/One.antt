@@ -1,21 +1,20 @@
 -- The laws of one list in its two forms.
 use mathlib.Core.Path.{_≡_, sym, ap, _∙_, subst}
 use mathlib.Core.Bool.{Bool, true, false}
-use mathlib.Core.List.{List, _∷_}
+use mathlib.Core.List.{List}
 use Prim.Native.Nat.{ℕ, _+_, _-_, _≤_, _<_}
 use native.Mathlib.Omega.{arith}
-use lib.ListN.{length, take, drop, replicate, length-append, length-drop}
+use lib.ListN.{length, take, drop, replicate, length-append, length-drop, length-set}
 use lib.Seq.{length-take-le}
-use Rattle.model.specs.Lists.{Slot, unused, used, entries, bound, remove, insertSorted}
+use Rattle.model.specs.Lists.{Slot, unused, used, entries, bound, remove, replaceAt}
 use Rattle.model.specs.Store.{slotsOf, earlyOf, tableSlots, tableWords, earlyIn, lengthIn, wordsIn}
 use Rattle.model.specs.Store as store
 use Rattle.model.proofs.Stored.{Storable, early, sorted, Kept, test-kept, table-length, table-used}
 use Rattle.model.proofs.Whole.{used-count}
 use Rattle.model.specs.declared.EarlyList.{EarlyList}
-use Rattle.model.proofs.Forms.{remove-run}
+use Rattle.model.proofs.Forms.{remove-run, replace-set}
 use Rattle.memory_structs.specs.declared.range.FrameRange.{FrameRange}
-use Rattle.tables.specs.Words.{IsTable, insertAt, notAbove}
-use Rattle.tables.proofs.Search.{insert-is, above-bound}
+use Rattle.tables.specs.Words.{IsTable}
 use Rattle.tables.proofs.Table.{is-table}
 use Rattle.early.specs.Slots.{IsEarly}
 use Rattle.lists.specs.declared.OneList.{OneList}
@@ -59,18 +58,14 @@ module _ (l : OneList) (ws : List ℕ) (t : IsList l ws) where
   pub early-length : l .sorted ≡ false → length (slotsIn l ws) ≡ 32
   early-length e = at-early (λ b s. length s) l ws e ∙ as-early e .size
 
--- how long a table is after a removal, and after an insert
+-- how long a table is after a removal, and with one entry rewritten
 pub length-removed : (i k : ℕ) (s : List Slot) → i + k ≤ length s → length (remove true i k s) ≡ length s - k
 length-removed i k s h =
     ap length (remove-run i k s) ∙ length-append (take i s) (drop (i + k) s)
     ∙ omega (arith, length-take-le i s (omega arith), length-drop (i + k) s)
 
-pub length-inserted : (r : FrameRange) (s : List Slot) → length (insertSorted r s) ≡ length s + 1
-unfolding insertAt
-length-inserted r s =
-    let n = notAbove (r .start) s in
-    ap length (insert-is r s) ∙ length-append (take n s) (used r ∷ drop n s)
-    ∙ omega (arith, above-bound (r .start) s, length-take-le n s (above-bound (r .start) s), length-drop n s)
+pub length-replaced : (i : ℕ) (r : FrameRange) (s : List Slot) → length (replaceAt i r s) ≡ length s
+length-replaced i r s = ap length (replace-set i r s) ∙ length-set s i (used r)
 
 -- room for one more entry
 pub room : (l : OneList) (ws : List ℕ) → IsList l ws → l .sorted ≡ true → length (entries (slotsIn l ws)) < bound (l .sorted) → l .len < 512

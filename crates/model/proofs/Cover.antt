@@ -1,15 +1,16 @@
 -- How often the slots of a list cover a frame, and what each operation on a list does to that.
 use Prim.Native.Nat.{ℕ, zero, suc, _+_, _-_, _≤_, _<_}
 use native.Mathlib.Omega.{arith}
-use mathlib.Core.Path.{_≡_, refl, ap}
-use mathlib.Core.Bool.{Bool, true, false}
+use mathlib.Core.Path.{_≡_, refl, ap, _∙_}
+use mathlib.Core.Bool.{Bool, true, false, _||_}
 use mathlib.Core.List.{List, [], _∷_}
 use lib.ListN.{length}
 use lib.Dec.{ltb}
 use Rattle.memory_structs.specs.Choice.{if_then_else_}
 use Rattle.memory_structs.proofs.Bools.{if-cases}
 use Rattle.memory_structs.proofs.Cover.{cov, cov-empty, covers-bit}
-use Rattle.model.specs.Lists.{Slot, unused, used, entries, Place, nowhere, at, firstWhere, lastWhere, later, orElse, rangeAt, insertEarly, insertSorted, removeOne, replaceAt, times}
+use Rattle.model.specs.Lists.{Slot, unused, used, entries, anyOf, Place, nowhere, at, firstWhere, lastWhere, later, orElse, rangeAt, insertEarly, insertSorted, removeOne, replaceAt, times}
+use Rattle.model.specs.Returns.{sortedOf}
 use Rattle.memory_structs.specs.declared.range.FrameRange.{FrameRange}
 
 unfoldable pub tally : ℕ → List Slot → ℕ
@@ -66,6 +67,26 @@ sorted-count r [] = refl
 sorted-count r (unused ∷ s) = sorted-count r s
 sorted-count r (used x ∷ s) =
     if-cases (λ t. count t ≡ suc (suc (count s))) (ltb (r .start) (x .start)) (λ e. refl) (λ e. ap suc (sorted-count r s))
+
+-- whether an entry passes a test does not hang on their order
+swap-or : (x y z : Bool) → (x || (y || z)) ≡ (y || (x || z))
+swap-or true true z = refl
+swap-or true false z = refl
+swap-or false y z = refl
+
+inserted-any : (p : FrameRange → Bool) (r : FrameRange) (s : List Slot) → anyOf p (entries (insertSorted r s)) ≡ (p r || anyOf p (entries s))
+unfolding insertSorted entries anyOf
+inserted-any p r [] = refl
+inserted-any p r (unused ∷ s) = inserted-any p r s
+inserted-any p r (used x ∷ s) =
+    if-cases (λ t. anyOf p (entries t) ≡ (p r || (p x || anyOf p (entries s)))) (ltb (r .start) (x .start))
+    (λ e. refl)
+    (λ e. ap (λ b. p x || b) (inserted-any p r s) ∙ swap-or (p x) (p r) (anyOf p (entries s)))
+
+pub sorted-any : (p : FrameRange → Bool) (rs : List FrameRange) → anyOf p (entries (sortedOf rs)) ≡ anyOf p rs
+unfolding sortedOf entries anyOf
+sorted-any p [] = refl
+sorted-any p (r ∷ rs) = inserted-any p r (sortedOf rs) ∙ ap (λ b. p r || b) (sorted-any p rs)
 
 -- removing: what is taken out is what stood there
 pub remove-tally : (sorted : Bool) (i : ℕ) (s : List Slot) (f : ℕ) → tally f (removeOne sorted i s) + cov (rangeAt s i) f ≡ tally f s

@@ -14,6 +14,7 @@ pub mod Ruled
 pub mod Plainly
 pub mod Held
 pub mod Unchanged
+pub mod Lasting
 pub mod Carried
 pub mod Claimed
 pub mod Separated

@@ -125,7 +125,7 @@ fromGrown l l' r (chunks i k c) =
     if ltb (bound (l .sorted)) (entriesAfter (l .sorted) i k c r (l' .reservedFree)) then refused 18 l else
     granted r (withReserved l' (grantFrom (l .sorted) i k c r (l' .reservedFree)) (l' .reservedRegions))
 
--- 18: a list of regions that is full, and "early growth also when either reserved list has 32 already"
+-- 18: the reserved regions are full, and "early growth also when either reserved list has 32 already"
 unfoldable pub noRoomToGrow : Lists → Bool
 noRoomToGrow l =
     leb (bound (l .sorted)) (length (entries (l .reservedRegions)))

@@ -1,13 +1,14 @@
 // Makes what a line asks for, writes the answer, and hands back the record after it.
 ghost use Prim.Native.Nat.{_≤_};
 ghost use lib.ListN.{length};
+use crate::broken;
 use crate::reading::Asked;
 use crate::reading::Call;
 use crate::reading::Way;
-use lines::written;
+use crate::shown;
+use crate::written;
 use model::Called;
 use model::FrameAllocator;
-use replays::shown;
 
 pub fn answer(
     a: FrameAllocator,
@@ -22,6 +23,7 @@ pub fn answer(
         Way::Plain => plain(a, words, asked, areas),
         Way::Short => short(a, words, asked, areas),
         Way::BrokenSlot => broken_slot(a, words, asked, areas),
+        Way::BrokenWord => broken_word(a, words, asked, areas),
     }
 }
 
@@ -40,10 +42,7 @@ fn plain(a: FrameAllocator, words: &mut [u64], asked: Asked, areas: &[u64]) -> F
 fn short(a: FrameAllocator, words: &mut [u64], asked: Asked, areas: &[u64]) -> FrameAllocator
     requires { ⌜ 4096 ≤ length (now words) ⌝ }
 {
-    match asked {
-        Asked::Call(call) => told(make(a, &mut words[..4095], call, areas)),
-        _ => bad(a),
-    }
+    only_call(a, &mut words[..4095], asked, areas)
 }
 
 // Only a copy of the record is broken.
@@ -53,11 +52,25 @@ fn broken_slot(
     asked: Asked,
     areas: &[u64],
 ) -> FrameAllocator {
+    only_call(broken::with_broken_slot(a), words, asked, areas);
+    a
+}
+
+// Goes on with the record that the call hands back, and with the last word as it was.
+fn broken_word(a: FrameAllocator, words: &mut [u64], asked: Asked, areas: &[u64]) -> FrameAllocator
+    requires { ⌜ 4096 ≤ length (now words) ⌝ }
+{
+    let last = words[4095];
+    words[4095] = 1;
+    let after = only_call(a, words, asked, areas);
+    words[4095] = last;
+    after
+}
+
+// A call, and nothing else that a line may ask for.
+fn only_call(a: FrameAllocator, words: &mut [u64], asked: Asked, areas: &[u64]) -> FrameAllocator {
     match asked {
-        Asked::Call(call) => {
-            told(make(replays::with_broken_slot(a), words, call, areas));
-            a
-        }
+        Asked::Call(call) => told(make(a, words, call, areas)),
         _ => bad(a),
     }
 }
@@ -67,11 +80,8 @@ fn make(a: FrameAllocator, words: &mut [u64], call: Call, areas: &[u64]) -> Call
         Call::Boot => boot::init(a, areas, words),
         Call::BootBytes => boot::init_from_bytes(a, areas, words),
         Call::Sort => sort::convert_frame_allocator_to_heap_based(a, words),
-        Call::Count(n) => requests::allocate_frames(a, words, n),
-        Call::CountBytes(n) => requests::allocate_frames_by_bytes(a, words, n),
-        Call::At(frame, n) => requests::allocate_frames_at(a, words, frame, n),
-        Call::AtBytes(address, n) => requests::allocate_frames_by_bytes_at(a, words, address, n),
-        Call::GeneralAt(frame, n) => requests::allocate_general_frames_at(a, words, frame, n),
+        Call::Request(request) => requests::allocate(a, words, request),
+        Call::Return(range) => returns::return_frames(a, words, range),
     }
 }
 

@@ -9,17 +9,22 @@
 //   at S N             requests N frames from frame S on
 //   at_bytes A N       requests N bytes from address A on
 //   general_at S N     requests N general frames from frame S on
+//   return S E         returns the frames from S to E
 //   lists              calls nothing, and shows the record
 //
-// Two words may stand before a boot, a sort or a request:
+// One of these may stand before a call:
 //
 //   short              calls with a workspace of 4,095 words
 //   broken_slot        calls with a copy of the record that breaks a rule: a slot is used and has no frame
+//   broken_word        calls with another last word, which breaks a rule in sorted form: an unused word is not 0
 //
 // A line of standard output is what the call answers, `done`, `granted` and the range, or `refused` and the number; the form and the
 // four lists; or `(bad)`. The file `stdout` holds what document 01 and the Rust answer; oracle/README.md says how it was made.
+mod broken;
 mod calls;
 mod reading;
+mod shown;
+mod written;
 
 ghost use Prim.Native.Nat.{_≤_};
 ghost use lib.ListN.{length};

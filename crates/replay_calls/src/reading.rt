@@ -2,12 +2,15 @@
 ghost use Prim.Native.Nat.{_≤_};
 use lines::Layout;
 use lines::Reading;
+use memory_structs::FrameRange;
+use requests::Request;
 
-// What a call is made with: the record and the workspace as they are, a short workspace, or a broken record.
+// What a call is made with: the record and the workspace as they are, a short workspace, a broken record, or a broken workspace.
 pub enum Way {
     Plain,
     Short,
     BrokenSlot,
+    BrokenWord,
 }
 
 pub enum Asked {
@@ -22,11 +25,8 @@ pub enum Call {
     Boot,
     BootBytes,
     Sort,
-    Count(u64),
-    CountBytes(u64),
-    At(u64, u64),
-    AtBytes(u64, u64),
-    GeneralAt(u64, u64),
+    Request(Request),
+    Return(FrameRange),
 }
 
 // The way that the line's first word names; a line that begins with its call is plain.
@@ -36,6 +36,9 @@ pub fn way_of(word: &[u8]) -> Way {
     }
     if check::same(word, b"broken_slot") {
         return Way::BrokenSlot;
+    }
+    if check::same(word, b"broken_word") {
+        return Way::BrokenWord;
     }
     Way::Plain
 }
@@ -107,23 +110,35 @@ fn alone(name: &[u8]) -> Asked {
 
 fn with_one(name: &[u8], n: u64) -> Asked {
     if check::same(name, b"count") {
-        return Asked::Call(Call::Count(n));
+        return Asked::Call(Call::Request(Request::Frames { num_frames: n }));
     }
     if check::same(name, b"count_bytes") {
-        return Asked::Call(Call::CountBytes(n));
+        return Asked::Call(Call::Request(Request::Bytes { num_bytes: n }));
     }
     Asked::Nothing
 }
 
 fn with_two(name: &[u8], from: u64, n: u64) -> Asked {
     if check::same(name, b"at") {
-        return Asked::Call(Call::At(from, n));
+        return Asked::Call(Call::Request(Request::FramesAt {
+            frame: from,
+            num_frames: n,
+        }));
     }
     if check::same(name, b"at_bytes") {
-        return Asked::Call(Call::AtBytes(from, n));
+        return Asked::Call(Call::Request(Request::BytesAt {
+            address: from,
+            num_bytes: n,
+        }));
     }
     if check::same(name, b"general_at") {
-        return Asked::Call(Call::GeneralAt(from, n));
+        return Asked::Call(Call::Request(Request::GeneralFramesAt {
+            frame: from,
+            num_frames: n,
+        }));
+    }
+    if check::same(name, b"return") {
+        return Asked::Call(Call::Return(FrameRange::new(from, n)));
     }
     Asked::Nothing
 }

@@ -1,5 +1,5 @@
 // Answers as lines: `yes` or `no` and the value, a range as its start and end; `refused 2`.
-use lines::written;
+use crate::written;
 use memory_structs::FrameRange;
 use memory_structs::MaybeHalves;
 use memory_structs::MaybeNumber;

@@ -1,10 +1,10 @@
 // Replays the range and frame calls of a fixed list. A line of standard input is a call's name and its numbers, four at the most; a
 // line of standard output is what our call answers. The file `stdout` holds what the Rust answered; oracle/README.md says how it was made.
 mod answers;
+mod written;
 
 use lines::Layout;
 use lines::Reading;
-use lines::written;
 use memory_structs::FrameRange;
 
 fn main() {

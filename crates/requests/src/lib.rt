@@ -7,30 +7,33 @@ ghost use Rattle.requests.specs.Asked.{callOf};
 use model::Called;
 use model::FrameAllocator;
 
-// What is asked for: so many general frames, wherever they are, or the frames from a given one on.
+// What is asked for.
 pub enum Request {
-    Frames(u64),
-    Bytes(u64),
-    FramesAt(u64, u64),
-    BytesAt(u64, u64),
-    GeneralFramesAt(u64, u64),
+    // So many general frames, wherever they are, and general frames for so many bytes.
+    Frames { num_frames: u64 },
+    Bytes { num_bytes: u64 },
+    // These frames, or the frames of these bytes. Where no list knows them they become a reserved region, for good.
+    FramesAt { frame: u64, num_frames: u64 },
+    BytesAt { address: u64, num_bytes: u64 },
+    // These frames, if they are general and free; a request that never grows.
+    GeneralFramesAt { frame: u64, num_frames: u64 },
 }
 
 // So many general frames, wherever they are.
 pub fn allocate_frames(a: FrameAllocator, words: &mut [u64], num_frames: u64) -> Called
     ensures { λ r. ⌜ Gives (countCall «num_frames») a (now (words .entry)) r (now (words .exit)) ⌝ }
 {
-    allocate(a, words, Request::Frames(num_frames))
+    allocate(a, words, Request::Frames { num_frames })
 }
 
 // General frames for so many bytes.
 pub fn allocate_frames_by_bytes(a: FrameAllocator, words: &mut [u64], num_bytes: u64) -> Called
     ensures { λ r. ⌜ Gives (countBytesCall «num_bytes») a (now (words .entry)) r (now (words .exit)) ⌝ }
 {
-    allocate(a, words, Request::Bytes(num_bytes))
+    allocate(a, words, Request::Bytes { num_bytes })
 }
 
-// The frames from this one on.
+// The frames from this one on. Where no list knows them they become a reserved region, for good.
 pub fn allocate_frames_at(
     a: FrameAllocator,
     words: &mut [u64],
@@ -39,7 +42,7 @@ pub fn allocate_frames_at(
 ) -> Called
     ensures { λ r. ⌜ Gives (addressCall frame «num_frames») a (now (words .entry)) r (now (words .exit)) ⌝ }
 {
-    allocate(a, words, Request::FramesAt(frame, num_frames))
+    allocate(a, words, Request::FramesAt { frame, num_frames })
 }
 
 // The frames of so many bytes from this address on.
@@ -51,10 +54,10 @@ pub fn allocate_frames_by_bytes_at(
 ) -> Called
     ensures { λ r. ⌜ Gives (addressBytesCall address «num_bytes») a (now (words .entry)) r (now (words .exit)) ⌝ }
 {
-    allocate(a, words, Request::BytesAt(address, num_bytes))
+    allocate(a, words, Request::BytesAt { address, num_bytes })
 }
 
-// The frames from this one on, if they are general.
+// The frames from this one on, if they are general and free.
 pub fn allocate_general_frames_at(
     a: FrameAllocator,
     words: &mut [u64],
@@ -63,7 +66,7 @@ pub fn allocate_general_frames_at(
 ) -> Called
     ensures { λ r. ⌜ Gives (generalCall frame «num_frames») a (now (words .entry)) r (now (words .exit)) ⌝ }
 {
-    allocate(a, words, Request::GeneralFramesAt(frame, num_frames))
+    allocate(a, words, Request::GeneralFramesAt { frame, num_frames })
 }
 
 // "Order: 3, 11", then as the request is met.
@@ -77,16 +80,28 @@ pub fn allocate(a: FrameAllocator, words: &mut [u64], request: Request) -> Calle
     meet_request(a, words, request)
 }
 
-// On a record that keeps the rules, which it keeps: the next call may go on without the test (proofs/Kept).
+// On a record that keeps the rules, which it keeps: the next call may go on without the test (`call-keeps`, rules/proofs/Going).
 pub fn meet_request(a: FrameAllocator, words: &mut [u64], request: Request) -> Called
     requires { ⌜ Ruled a (now words) ⌝ }
     ensures { λ r. ⌜ Does (answer (callOf request) (load a (now (words .entry)))) (now (words .entry)) r (now (words .exit)) ⌝ }
 {
     match request {
-        Request::Frames(n) => by_count::count_frames(a, words, n),
-        Request::Bytes(n) => by_count::count_bytes(a, words, n),
-        Request::FramesAt(frame, n) => by_address::frames_at(a, words, frame, n),
-        Request::BytesAt(address, n) => by_address::bytes_at(a, words, address, n),
-        Request::GeneralFramesAt(frame, n) => by_address::general_frames_at(a, words, frame, n),
+        Request::Frames { num_frames } => by_count::count_frames(a, words, num_frames),
+        Request::Bytes { num_bytes } => by_count::count_bytes(a, words, num_bytes),
+        Request::FramesAt { frame, num_frames } => by_address::frames_at(
+            a,
+            words,
+            frame,
+            num_frames,
+        ),
+        Request::BytesAt { address, num_bytes } => by_address::bytes_at(
+            a,
+            words,
+            address,
+            num_bytes,
+        ),
+        Request::GeneralFramesAt { frame, num_frames } => {
+            by_address::general_frames_at(a, words, frame, num_frames)
+        }
     }
 }

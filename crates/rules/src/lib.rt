@@ -49,7 +49,7 @@ pub fn accepted(a: FrameAllocator, count: u64) -> Called
 }
 
 // An answer that names no frames.
-fn without_frames(number: u64, count: u64) -> Answer
+pub fn without_frames(number: u64, count: u64) -> Answer
     ensures { λ r. ⌜ r ≡ withoutFrames number count ⌝ }
 {
     Answer {

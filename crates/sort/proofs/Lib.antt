@@ -1,3 +1,3 @@
-pub mod Sorting
+pub mod Table
 pub mod Parts
 pub mod Whole

@@ -4,9 +4,9 @@ use mathlib.Core.Bool.{Bool, true, false}
 use mathlib.Core.List.{List, [], _∷_, _++_}
 use Prim.Native.Nat.{ℕ, zero, suc, _+_, _-_, _*_, _≤_, _<_}
 use native.Mathlib.Omega.{arith}
-use lib.ListN.{length, drop, getD}
+use lib.ListN.{length, take, drop, getD, length-append, length-drop}
 use native.Mathlib.Nat.{add-zero}
-use lib.Seq.{getD-drop, drop-drop}
+use lib.Seq.{getD-drop, drop-drop, length-take-le}
 use borrow.Author.Tests.{le-ltb, lt-ltb, leb-true, leb-false}
 use lib.Dec.{ltb, leb}
 use Rattle.memory_structs.specs.Choice.{if_then_else_}
@@ -95,6 +95,14 @@ unfolding notAbove
 above-bound f [] = omega arith
 above-bound f (unused ∷ s) = omega (arith, above-bound f s)
 above-bound f (used x ∷ s) = case-bound (ltb f (x .start)) (notAbove f s) (length s) (above-bound f s)
+
+pub length-at : (i : ℕ) (r : FrameRange) (s : List Slot) → i ≤ length s → length (insertAt i r s) ≡ length s + 1
+unfolding insertAt
+length-at i r s h =
+    length-append (take i s) (used r ∷ drop i s) ∙ omega (arith, length-take-le i s h, length-drop i s)
+
+pub length-inserted : (r : FrameRange) (s : List Slot) → length (insertSorted r s) ≡ length s + 1
+length-inserted r s = ap length (insert-is r s) ∙ length-at (notAbove (r .start) s) r s (above-bound (r .start) s)
 
 -- a search from the top down, with the loop's own counter
 module _ (p : FrameRange → Bool) (ws : List ℕ) (n i : ℕ) (inv : lastWhere p (tableSlots n ws) ≡ lastWhere p (tableSlots i ws)) where

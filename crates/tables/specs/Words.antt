@@ -7,6 +7,7 @@ use lib.Seq.{paste}
 use lib.Dec.{ltb}
 use Rattle.memory_structs.specs.Choice.{if_then_else_}
 use Rattle.model.specs.Lists.{Slot, unused, used, Place, nowhere, at}
+use Rattle.model.specs.Store.{slotWords}
 use Rattle.memory_structs.specs.declared.range.FrameRange.{FrameRange}
 use Rattle.tables.specs.declared.Found.{Found}
 use Rattle.tables.specs.declared.Found.the-variants.{Nowhere, At}
@@ -16,6 +17,10 @@ pub record IsTable (n : ℕ) (ws : List ℕ) : Type 0 where
   pub fits : n ≤ 512
   pub size : length ws ≡ 1024
   pub zeros : drop (2 * n) ws ≡ replicate (1024 - 2 * n) 0
+
+-- the words of the slots, and after them the words as they were
+unfoldable pub overWords : List Slot → List ℕ → List ℕ
+overWords s ws = slotWords s ++ drop (2 * length s) ws
 
 -- a slot put in before the slot at i
 unfoldable pub insertAt : ℕ → FrameRange → List Slot → List Slot

@@ -1,19 +1,18 @@
 -- A grant from one list of the record: refused, or done.
 use Prim.Native.Nat.{ℕ, _≤_, _<_}
-use mathlib.Core.Path.{_≡_, refl, sym, ap, subst, _∙_}
+use mathlib.Core.Path.{_≡_, refl, sym, ap, _∙_}
 use mathlib.Core.List.{List}
 use borrow.Author.Tests.{lt-ltb, le-ltb}
 use Rattle.memory_structs.specs.Range.{range}
 use Rattle.model.specs.Lists.{Lists, bound}
-use Rattle.model.specs.Requests.{Result, withoutFrames, refused, granted, takeGeneral, takeReserved}
+use Rattle.model.specs.Requests.{Result, refused, granted, takeGeneral, takeReserved}
 use Rattle.model.specs.Store.{load, recordOf, wordsOf}
 use Rattle.model.specs.declared.Called.{Called}
 use Rattle.model.specs.declared.FrameAllocator.{FrameAllocator}
 use Rattle.lists.specs.declared.record.WhichList.{WhichList}
 use Rattle.lists.specs.declared.record.WhichList.the-variants.{GeneralFree, ReservedFree}
 use Rattle.lists.specs.Record.{slotsAt, withSlots, AllStored}
-use Rattle.rules.specs.Check.{Ruled, Does, refusedWith}
-use Rattle.rules.proofs.Going.{does-nothing}
+use Rattle.rules.specs.Check.{Does}
 use Rattle.grants.specs.declared.Chosen.{Chosen}
 use Rattle.grants.specs.Grants.{grantOf, entriesLeft}
 use Rattle.taking.specs.Takes.{taken, grantedWith}
@@ -27,12 +26,6 @@ module _ (c : Chosen) (start end : ℕ) (l : Lists) where
   pub reserved-taken : taken ReservedFree c start end l ≡ takeReserved l (c .first) (c .many) (range (c .start) (c .end)) (range start end)
   unfolding taken takeReserved entriesLeft grantOf slotsAt withSlots
   reserved-taken = refl
-
--- a refusal does nothing
-pub does-refuse : (a : FrameAllocator) (ws : List ℕ) → Ruled a ws → (n : ℕ) (called : Called) → called ≡ refusedWith n a → (r : Result) → r ≡ refused n (load a ws) → Does r ws called ws
-unfolding refused
-does-refuse a ws u n called e r p =
-    subst (λ (x : Called). Does r ws x ws) (sym e) (subst (λ (x : Result). Does x ws (refusedWith n a) ws) (sym p) (does-nothing a ws u (withoutFrames n 0)))
 
 -- a grant answers its range
 pub does-grant : {l : Lists} {ws : List ℕ} {b : FrameAllocator} {after : List ℕ} (start end : ℕ) (called : Called) → called ≡ grantedWith start end b → AllStored l ws b after →

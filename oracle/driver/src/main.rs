@@ -1,30 +1,26 @@
 //! Holds the static library to the Theseus sources: see ../README.md.
 
+mod allocator;
 mod boots;
-mod call;
-mod compare;
-mod counts;
-mod departures;
-mod domain;
-mod generate;
-mod ours;
-mod outcome;
+mod calls;
+mod frames;
 mod random;
-mod replay;
-mod theirs;
+mod ranges;
 
 use std::path::Path;
 use std::process::ExitCode;
 use std::{env, io};
 
-const USAGE: &str = "usage: run [--random CALLS] [--boots BOOTS] [--seed NUMBER]
+const USAGE: &str = "usage: run [--random CALLS] [--boots BOOTS] [--calls CALLS] [--seed NUMBER]
        run --replay-list FOLDER
-       run --replay-boots FOLDER
+       run --replay-calls FOLDER
        run --departures";
 
-/// About 34 million of these lie inside the domain, so that the Rust itself answers them.
+/// Range and frame calls. About 34 million of these lie inside the domain, so that the Rust itself answers them.
 const RANDOM_CALLS: u64 = 40_000_000;
 const RANDOM_BOOTS: u64 = 1_000_000;
+/// Calls in random lists.
+const LISTED_CALLS: u64 = 4_000_000;
 const SEED: u64 = 1;
 
 fn main() -> ExitCode {
@@ -32,11 +28,11 @@ fn main() -> ExitCode {
     let arguments: Vec<&str> = arguments.iter().map(String::as_str).collect();
 
     match arguments[..] {
-        ["--replay-list", folder] => return written(folder, replay::write_list),
-        ["--replay-boots", folder] => return written(folder, boots::write_list),
-        ["--departures"] => return status(departures::show() & boots::show()),
+        ["--replay-list", folder] => return written(folder, ranges::write_list),
+        ["--replay-calls", folder] => return written(folder, calls::write_list),
+        ["--departures"] => return status(ranges::show() & calls::show()),
         ["--ask-rust", index] => {
-            boots::ask_rust(index.parse().expect("a departure's number"));
+            calls::ask_rust(index.parse().expect("a departure's number"));
             return ExitCode::SUCCESS;
         }
         _ => {}
@@ -46,9 +42,13 @@ fn main() -> ExitCode {
         eprintln!("{USAGE}");
         return ExitCode::from(2);
     };
-    let Options { calls, boots, seed } = options;
-    println!("random calls: {calls}, random boots: {boots}, seed: {seed}");
-    status(compare::compare(calls, seed) & boots::compare(boots, seed))
+    let Options { random, boots, calls, seed } = options;
+    println!(
+        "random calls: {random}, random boots: {boots}, calls in lists: {calls}, seed: {seed}"
+    );
+    status(
+        ranges::compare(random, seed) & boots::compare(boots, seed) & calls::compare(calls, seed),
+    )
 }
 
 fn written(folder: &str, write: fn(&Path, u64) -> io::Result<()>) -> ExitCode {
@@ -69,19 +69,22 @@ fn status(success: bool) -> ExitCode {
     }
 }
 
-/// How many random calls and boots are compared.
+/// How many random calls, boots and calls in lists are compared.
 struct Options {
-    calls: u64,
+    random: u64,
     boots: u64,
+    calls: u64,
     seed: u64,
 }
 
 fn comparison_options(arguments: &[&str]) -> Option<Options> {
-    let mut options = Options { calls: RANDOM_CALLS, boots: RANDOM_BOOTS, seed: SEED };
+    let mut options =
+        Options { random: RANDOM_CALLS, boots: RANDOM_BOOTS, calls: LISTED_CALLS, seed: SEED };
     for option in arguments.chunks(2) {
         match option {
-            ["--random", number] => options.calls = number.parse().ok()?,
+            ["--random", number] => options.random = number.parse().ok()?,
             ["--boots", number] => options.boots = number.parse().ok()?,
+            ["--calls", number] => options.calls = number.parse().ok()?,
             ["--seed", number] => options.seed = number.parse().ok()?,
             _ => return None,
         }

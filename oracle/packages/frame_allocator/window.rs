@@ -6,8 +6,8 @@
 //! called from everywhere; so the window is a few associated functions of `FreeFrames`.
 //!
 //! Dropping a `Frames` returns its frames to the allocator's lists. Each one made here is held in a
-//! `ManuallyDrop`, so none ever is: the range and frame calls are functions of their operands alone.
-//! What a boot puts in the lists is forgotten before the next one.
+//! `ManuallyDrop`, so none ever is, but by `window_return`: the range and frame calls are functions of
+//! their operands alone. What the lists hold is forgotten before the next boot.
 
 use super::*;
 use alloc::vec::Vec;
@@ -86,6 +86,36 @@ impl FreeFrames {
         empty(&GENERAL_REGIONS, sorted);
         empty(&RESERVED_REGIONS, sorted);
     }
+
+    /// Inserts these entries into the four lists.
+    pub fn window_insert(entries: [Vec<FrameRange>; 4]) {
+        let [general, reserved, general_regions, reserved_regions] = entries;
+        insert(&FREE_GENERAL_FRAMES_LIST, general, of);
+        insert(&FREE_RESERVED_FRAMES_LIST, reserved, |frames| {
+            FreeFrames::new(MemoryRegionType::Reserved, frames)
+        });
+        insert(&GENERAL_REGIONS, general_regions, |frames| {
+            PhysicalMemoryRegion::new(frames, MemoryRegionType::Free)
+        });
+        insert(&RESERVED_REGIONS, reserved_regions, |frames| {
+            PhysicalMemoryRegion::new(frames, MemoryRegionType::Reserved)
+        });
+    }
+
+    /// A return: frames of these numbers are made, as the callback of `init` makes them, and dropped.
+    pub fn window_return(frames: FrameRange) {
+        drop(into_unmapped_frames(frames));
+    }
+
+    /// Where the search of the general list finds only some of these frames: the first absent one, and
+    /// how many are. The calls turn this error into a string without them. It changes no list.
+    pub fn window_missing(frame: Frame, num_frames: usize) -> Option<(Frame, usize)> {
+        match find_specific_chunk(&mut FREE_GENERAL_FRAMES_LIST.lock(), frame, num_frames) {
+            Err(AllocationError::ContiguousChunkNotFound(first, absent)) => Some((first, absent)),
+            Err(_) => None,
+            Ok(_) => panic!("a request that was refused is met"),
+        }
+    }
 }
 
 fn slots<T: Ord + Deref<Target = FrameRange>>(list: &StaticArrayRBTree<T>) -> Option<Slots> {
@@ -116,6 +146,19 @@ fn empty<T: Ord + 'static>(list: &Mutex<StaticArrayRBTree<T>>, sorted: bool) {
     }
     if sorted {
         list.convert_to_heap_allocated();
+    }
+}
+
+fn insert<T: Ord + 'static>(
+    list: &Mutex<StaticArrayRBTree<T>>,
+    entries: Vec<FrameRange>,
+    entry: impl Fn(FrameRange) -> T,
+) {
+    let mut list = list.lock();
+    for range in entries {
+        if list.insert(entry(range)).is_err() {
+            panic!("a list without room");
+        }
     }
 }
 

@@ -1,8 +1,7 @@
 -- `bytes_at`: 2, or the frames that the bytes need from the address on.
 use mathlib.Core.Path.{sym}
 use Rattle.model.specs.Store.{load}
-use Rattle.taking.proofs.Taken.{does-refuse}
-use Rattle.rules.proofs.Going.{does-as}
+use Rattle.rules.proofs.Going.{does-as, does-refuse}
 use Rattle.by_address.proofs.Asked.{address-over, address-bytes-over, address-bytes-on}
 use borrow.Author.Needs.{needs}
 use Rattle.by_address.proofs.bytes_at.Statement.{statement}

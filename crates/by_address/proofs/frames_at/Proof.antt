@@ -8,12 +8,10 @@ use Rattle.model.specs.Store.{load}
 use Rattle.lists.specs.Record.{slotsAt}
 use Rattle.chunks.specs.Searches.{foundOf}
 use Rattle.chunks.proofs.Chosen.{search-chooses}
-use Rattle.taking.proofs.Taken.{does-refuse}
 use Rattle.lists.specs.declared.record.WhichList.the-variants.{ReservedFree}
 use Rattle.lists.proofs.Whole.{tidy-list}
-use Rattle.rules.proofs.Going.{ruled}
+use Rattle.rules.proofs.Going.{ruled, does-refuse, does-as}
 use Rattle.by_address.specs.Asks.{askedNumber}
-use Rattle.rules.proofs.Going.{does-as}
 use Rattle.by_address.proofs.Asked.{asked, address-refused, address-on}
 use Rattle.by_address.proofs.Searched.{missing-count, reserved-not, reserved-missing, reserved-short, reserved-chunks}
 use borrow.Author.Needs.{needs}

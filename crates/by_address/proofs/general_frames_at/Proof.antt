@@ -8,9 +8,8 @@ use Rattle.model.specs.Store.{load}
 use Rattle.lists.specs.Record.{slotsAt}
 use Rattle.chunks.specs.Searches.{foundOf}
 use Rattle.chunks.proofs.Chosen.{search-chooses}
-use Rattle.taking.proofs.Taken.{does-refuse}
 use Rattle.by_address.specs.Asks.{askedNumber}
-use Rattle.rules.proofs.Going.{does-as}
+use Rattle.rules.proofs.Going.{does-as, does-refuse}
 use Rattle.by_address.proofs.Asked.{asked, general-refused, general-on, does-miss}
 use Rattle.by_address.proofs.Searched.{only-not, only-missing, only-short, only-chunks}
 use borrow.Author.Needs.{needs}

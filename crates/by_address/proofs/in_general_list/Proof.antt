@@ -6,8 +6,7 @@ use Rattle.model.specs.Store.{load}
 use Rattle.lists.specs.Record.{slotsAt}
 use Rattle.chunks.specs.Searches.{foundOf}
 use Rattle.chunks.proofs.Chosen.{search-chooses}
-use Rattle.taking.proofs.Taken.{does-refuse}
-use Rattle.rules.proofs.Going.{does-as}
+use Rattle.rules.proofs.Going.{does-as, does-refuse}
 use Rattle.by_address.proofs.Searched.{general-not, general-missing, general-short, general-chunks}
 use borrow.Author.Needs.{needs}
 use Rattle.by_address.proofs.in_general_list.Statement.{statement}

@@ -1,8 +1,7 @@
 -- `count_bytes`: 2, or the frames that the bytes need.
 use mathlib.Core.Path.{sym}
 use Rattle.model.specs.Store.{load}
-use Rattle.taking.proofs.Taken.{does-refuse}
-use Rattle.rules.proofs.Going.{does-as}
+use Rattle.rules.proofs.Going.{does-as, does-refuse}
 use Rattle.by_count.proofs.Counted.{bytes-over, bytes-on}
 use borrow.Author.Needs.{needs}
 use Rattle.by_count.proofs.count_bytes.Statement.{statement}

@@ -5,8 +5,7 @@ use Rattle.model.specs.Lists.{at}
 use Rattle.model.specs.Requests.{largeEnough}
 use Rattle.model.specs.Store.{load}
 use Rattle.tables.specs.Words.{placeOf}
-use Rattle.taking.proofs.Taken.{does-refuse}
-use Rattle.rules.proofs.Going.{does-as}
+use Rattle.rules.proofs.Going.{does-as, does-refuse}
 use Rattle.by_count.proofs.Counted.{count-none, count-on, no-chunk}
 use borrow.Author.Needs.{needs}
 use Rattle.by_count.proofs.count_frames.Statement.{statement}

@@ -6,10 +6,10 @@ use mathlib.Core.Logic.{⊎-elim}
 use lib.ListN.{length}
 use Rattle.model.specs.Lists.{entries}
 use Rattle.lists.specs.One.{slotsIn}
-use Rattle.lists.proofs.Again.{list-storable}
+use Rattle.lists.proofs.Again.{list-storable, few-entries}
 use borrow.Author.Needs.{needs}
 use Rattle.grants.specs.Grants.{entriesLeft}
-use Rattle.grants.proofs.Entries.{leftover, one-leftover, no-leftover, leftover-bound, few-entries, taken-out, left-is}
+use Rattle.grants.proofs.Entries.{leftover, one-leftover, no-leftover, leftover-bound, taken-out, left-is}
 use Rattle.grants.proofs.entries_after.Statement.{statement}
 use Rattle.grants.proofs.entries_after.Tie as tie
 

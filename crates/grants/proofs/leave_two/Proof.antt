@@ -1,8 +1,10 @@
 -- `leave_two`: the part before stands where the first pair stood; the part after is rewritten or goes in after it.
 use native.Mathlib.Omega.{arith}
+use mathlib.Core.Path.{_∙_}
 use Prim.Native.Nat.{_+_, _-_}
 use Rattle.memory_structs.specs.Range.{range}
 use Rattle.model.proofs.Stored.{table-length}
+use Rattle.tables.proofs.Table.{table-inserted}
 use borrow.Author.Needs.{needs}
 use Rattle.grants.proofs.Rewritten.{rewritten-table, then-left, still-rising, put-after}
 use Rattle.grants.proofs.leave_two.Statement.{statement}
@@ -27,7 +29,8 @@ insert-requires c κs =
     let w = c .before .before .before .before .before .replace-at .ensures in
     let single = c .before .if1 .taken in
     let more = s .pre .1 .1 .1 in
-    (rewritten-table (a .len) (a .chosen .first) (range (a .chosen .start) (a .start - 1)) (a .t .now) _ (s .pre .0) w, (omega (arith, single, more), still-rising (a .len) (a .chosen) (a .start) (a .end) (a .t .now) _ (s .pre .0) (s .pre .1 .0) (s .pre .1 .1 .0) (more .0) (more .1) single w))
+    let t = rewritten-table (a .len) (a .chosen .first) (range (a .chosen .start) (a .start - 1)) (a .t .now) _ (s .pre .0) w in
+    (omega (arith, single, more, t .size), still-rising (a .len) (a .chosen) (a .start) (a .end) (a .t .now) _ (s .pre .0) (s .pre .1 .0) (s .pre .1 .1 .0) (more .0) (more .1) single w)
 
 add-result : tie.Need-add-result
 add-result c = search needs
@@ -42,8 +45,9 @@ returns c =
     let s = k .before .before .before in
     let a = s .args in
     let more = s .pre .1 .1 .1 in
+    let t = rewritten-table (a .len) (a .chosen .first) (range (a .chosen .start) (a .start - 1)) (a .t .now) _ (s .pre .0) (k .replace-at .ensures) in
     put-after (a .len) (a .chosen) (a .start) (a .end) (a .t .now) _ (s .pre .0) (s .pre .1 .0) (s .pre .1 .1 .0) (more .0) (more .1) (i .if1 .taken) (k .replace-at .ensures) _
-    (c .before .before .insert .ensures)
+    (c .before .before .insert .ensures ∙ table-inserted t (omega (arith, i .if1 .taken, more)) (range (a .end + 1) (a .chosen .end)))
 
 add-leave-one : tie.Need-add-leave-one
 add-leave-one c =

@@ -3,7 +3,7 @@ use mathlib.Core.Path.{sym, _∙_}
 use Rattle.memory_structs.specs.Range.{range}
 use Rattle.model.specs.Store.{load}
 use Rattle.lists.specs.Record.{slotsAt}
-use Rattle.taking.proofs.Taken.{does-refuse}
+use Rattle.rules.proofs.Going.{does-refuse}
 use Rattle.growth.proofs.Tail.{LastChunk}
 use Rattle.growth.proofs.Growing.{Open, open-growth, grow-refused}
 use Rattle.growth.proofs.Cut.{some-chunk, has-last, last-is, cut-chooses, cut-fits, cut-ruled, cut-room, tail-done}

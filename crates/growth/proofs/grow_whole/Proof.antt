@@ -2,7 +2,8 @@
 use mathlib.Core.Path.{sym, _∙_}
 use Rattle.memory_structs.specs.Range.{range}
 use Rattle.model.specs.Store.{load}
-use Rattle.taking.proofs.Taken.{does-refuse, does-grant}
+use Rattle.rules.proofs.Going.{does-refuse}
+use Rattle.taking.proofs.Taken.{does-grant}
 use Rattle.growth.proofs.Growing.{Open, open-growth, grow-refused, room-regions, whole-growth, tidy-chunks}
 use borrow.Author.Needs.{needs}
 use Rattle.growth.proofs.grow_whole.Statement.{statement}

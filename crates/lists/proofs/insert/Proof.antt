@@ -7,8 +7,10 @@ use Rattle.model.specs.Lists.{insert}
 use Rattle.model.specs.Rules.{slotted}
 use Rattle.model.specs.Store.{tableSlots}
 use Rattle.model.proofs.Stored.{table-length}
+use Rattle.tables.proofs.Search.{length-inserted}
+use Rattle.tables.proofs.Table.{table-inserted}
 use borrow.Author.Needs.{needs}
-use Rattle.lists.proofs.One.{as-table, as-early, at-sorted, room, length-inserted, sorted-after, early-after}
+use Rattle.lists.proofs.One.{as-table, as-early, at-sorted, room, sorted-after, early-after}
 use Rattle.lists.proofs.insert.Statement.{statement}
 use Rattle.lists.proofs.insert.Tie as tie
 
@@ -20,7 +22,7 @@ unfolding slotted
 insert-requires c κs =
     let s = c .before .before .before in
     let e = c .before .if1 .taken in
-    (as-table (s .args .l) (s .args .t .now) (s .pre .0) e, (in-table (c .before), sym (at-sorted slotted (s .args .l) (s .args .t .now) e) ∙ s .pre .1 .0))
+    (omega (arith, s .pre .0 .size, in-table (c .before)), sym (at-sorted slotted (s .args .l) (s .args .t .now) e) ∙ s .pre .1 .0)
 
 add-l : tie.Need-add-l
 add-l c = omega (arith, in-table (c .before .before .before .before .before))
@@ -36,7 +38,7 @@ returns c =
     let a = s .args in
     sorted-after (λ b x. insert b (range (a .start) (a .end)) x) (a .l) (a .t .now) (s .pre .0) (k .if1 .taken) (a .l .len + 1) _
     (omega (arith, length-inserted (range (a .start) (a .end)) (tableSlots (a .l .len) (a .t .now)), table-length (a .l .len) (a .t .now)))
-    (c .before .before .before .insert .ensures)
+    (c .before .before .before .insert .ensures ∙ table-inserted (as-table (a .l) (a .t .now) (s .pre .0) (k .if1 .taken)) (in-table k) (range (a .start) (a .end)))
 
 insert-requires-2 : tie.Need-insert-requires-2
 insert-requires-2 c κs = let s = c .before .before in as-early (s .args .l) (s .args .t .now) (s .pre .0) (c .if1 .left)

@@ -5,7 +5,8 @@ use Rattle.model.specs.Lists.{bound}
 use Rattle.model.specs.Store.{load}
 use Rattle.lists.specs.Record.{slotsAt}
 use Rattle.grants.specs.Grants.{entriesLeft}
-use Rattle.taking.proofs.Taken.{does-refuse, does-grant, no-place, some-place}
+use Rattle.rules.proofs.Going.{does-refuse}
+use Rattle.taking.proofs.Taken.{does-grant, no-place, some-place}
 use borrow.Author.Needs.{needs}
 use Rattle.taking.proofs.take.Statement.{statement}
 use Rattle.taking.proofs.take.Tie as tie

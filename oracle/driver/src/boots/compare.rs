@@ -1,19 +1,23 @@
 //! Compares whole boots on both sides: the number, the answer's other values, and the record, slot
 //! by slot. Then sorts what was booted, and compares the record and every word.
 
-use super::area::Boot;
 use super::counts::{Counts, Row, Source};
 use super::generate;
 use super::judge::Judgement;
-use super::ours::{self, EMPTY_TABLES, UNREAD};
-use super::record::{Called, FrameAllocator, Lists, Sorted};
 use super::small;
-use super::theirs::{self, Result};
+use crate::allocator::area::Boot;
+use crate::allocator::call::Call;
+use crate::allocator::record::{Answer, Called, FrameAllocator, Stored, UNREAD};
+use crate::allocator::state::{Lists, State};
+use crate::allocator::{numbers, ours, theirs};
 use crate::random::Random;
-use std::fmt::Display;
+use std::fmt::{self, Display};
 
 /// So many differences are printed in full; the others are only counted.
 const SHOWN: u64 = 20;
+
+/// The workspace of a record in sorted form with empty tables.
+static EMPTY_TABLES: [u64; 4096] = [0; 4096];
 
 /// Of so many boots one is booted again.
 const AGAIN: u64 = 7;
@@ -38,7 +42,7 @@ pub fn compare(random_boots: u64, seed: u64) -> bool {
         };
         comparison.add(source, &boot, &boot);
     }
-    theirs::empty_lists();
+    theirs::empty_lists(false);
 
     comparison.counts.print();
     println!("differences: {}", comparison.differences);
@@ -63,11 +67,11 @@ impl Comparison {
 
         let judgement = Judgement::of(boot, sorted);
         self.counts.add(source, &judgement.rows);
-        let before = FrameAllocator::empty(sorted);
+        let before = FrameAllocator::of(&State::empty(sorted));
         let expected = judgement.expected(before);
         self.note(judgement.judge, boot, &expected, &ours::boot(boot, before, words));
         self.note(judgement.judge, mixed, &expected, &ours::boot_in_disguise(mixed, before, words));
-        if let Some(lists) = judgement.lists() {
+        if let Some(lists) = judgement.lists {
             if self.boots % AGAIN == 0 {
                 self.boot_again(source, Row::BootedTwice, boot, expected.allocator, &UNREAD);
             }
@@ -78,18 +82,22 @@ impl Comparison {
     }
 
     /// Sorts what was booted. A second sort changes nothing; some are then booted again.
-    fn sort(&mut self, source: Source, boot: &Boot, lists: &Lists) {
-        let tables = theirs::sort();
-        Row::of_sorted(lists, &tables).iter().for_each(|row| self.counts.add_later(source, *row));
-        let expected = Sorted::accepted(&tables, UNREAD.to_vec());
-        let once = ours::sort(FrameAllocator::storing(lists), UNREAD.to_vec());
+    fn sort(&mut self, source: Source, boot: &Boot, lists: Lists) {
+        theirs::reply(&Call::Sort);
+        let state = theirs::state();
+        let State::Sorted(tables) = &state else { panic!("a sort leaves its lists sorted") };
+        Row::of_sorted(&lists, tables).iter().for_each(|row| self.counts.add_later(source, *row));
+        let expected = Sorted { answer: Answer::DONE, stored: Stored::new(&state) };
+        let once = Sorted::from(Stored::new(&State::Early(lists)));
         self.note("the Rust, sorted", boot, &expected, &once);
 
-        assert!(theirs::sort() == tables, "the Rust changed what was sorted: {boot}");
-        let twice = ours::sort(once.called.allocator, once.words);
+        theirs::reply(&Call::Sort);
+        assert!(theirs::state() == state, "the Rust changed what was sorted: {boot}");
+        let twice = Sorted::from(once.stored);
         self.note("the Rust, sorted twice", boot, &expected, &twice);
         if self.boots % AGAIN == 1 {
-            self.boot_again(source, Row::BootedSorted, boot, twice.called.allocator, &twice.words);
+            let Stored { allocator, words } = twice.stored;
+            self.boot_again(source, Row::BootedSorted, boot, allocator, &words);
         }
     }
 
@@ -103,14 +111,16 @@ impl Comparison {
         before: FrameAllocator,
         words: &[u64],
     ) {
-        let expected = match theirs::boot_again(boot) {
-            Result::Lists(lists) => Called::accepted(&lists),
-            Result::Err => {
+        let answer = numbers::answer(theirs::boot(boot));
+        let allocator = match answer.number {
+            0 => FrameAllocator::of(&theirs::state()),
+            10 => {
                 self.counts.add_later(source, row);
-                Called::refused(10, before)
+                before
             }
-            Result::Panic(_) => panic!("the Rust booted twice: {boot}"),
+            number => panic!("{number} of what was booted: {boot}"),
         };
+        let expected = Called { answer, allocator };
         let found = ours::boot(boot, before, words);
         self.note("the Rust, booted again", boot, &expected, &found);
     }
@@ -122,5 +132,24 @@ impl Comparison {
                 println!("difference: {boot}\n  {judge}: {expected}\n  ours: {found}");
             }
         }
+    }
+}
+
+/// What a sort answers and leaves.
+#[derive(PartialEq)]
+struct Sorted {
+    answer: Answer,
+    stored: Stored,
+}
+
+impl Sorted {
+    fn from(mut stored: Stored) -> Sorted {
+        Sorted { answer: ours::answer(&Call::Sort, &mut stored), stored }
+    }
+}
+
+impl Display for Sorted {
+    fn fmt(&self, f: &mut fmt::Formatter) -> fmt::Result {
+        write!(f, "{}; {}", self.answer, self.stored)
     }
 }

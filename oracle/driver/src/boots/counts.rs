@@ -1,9 +1,9 @@
 //! How often each thing that can come of a boot, and of a sort after it, did.
 
-use super::area::{Area, Boot, Unit};
 use super::domain::is_empty;
-use super::record::{Lists, Tables, SLOTS};
-use crate::call::Range;
+use crate::allocator::area::{Area, Boot, Unit};
+use crate::allocator::state::{Lists, Tables, SLOTS};
+use crate::frames::{Range, FRAME_SIZE};
 
 /// Where the boots come from.
 #[derive(Clone, Copy, PartialEq, Eq)]
@@ -162,7 +162,10 @@ fn frames(area: &Area, unit: Unit) -> Option<Range> {
     let (start, end) = match unit {
         _ if is_empty(area, unit) => return None,
         Unit::Frames => (area.first, area.second),
-        Unit::Bytes => (area.first / 4096, (area.first + (area.second - 1)) / 4096),
+        Unit::Bytes => {
+            let last = area.first + (area.second - 1);
+            (area.first / FRAME_SIZE, last / FRAME_SIZE)
+        }
     };
     Some(Range { start, end })
 }

@@ -1,10 +1,8 @@
 //! Random boots, aimed at what can come of a boot.
 
-use super::area::{general, reserved, Area, Boot, Unit};
-use crate::domain::{ADDRESS_LIMIT, BYTE_LIMIT, TOP};
+use crate::allocator::area::{general, reserved, Area, Boot, Unit};
+use crate::frames::{ADDRESS_LIMIT, BYTE_LIMIT, FRAME_SIZE, TOP};
 use crate::random::Random;
-
-const FRAME_SIZE: u64 = 4096;
 
 /// A program that replays boots takes no more areas than this in one.
 pub const MOST_AREAS: usize = 40;
@@ -52,7 +50,7 @@ fn few(random: &mut Random) -> Vec<Area> {
 }
 
 /// Up to 40 areas, each above the last, of either kind, in one of the orders.
-fn tiles(random: &mut Random) -> Vec<Area> {
+pub fn tiles(random: &mut Random) -> Vec<Area> {
     let count = 1 + random.below(MOST_AREAS as u64);
     let kinds = 1 + random.below(4);
     let mut areas = row(count, random);
@@ -241,7 +239,7 @@ fn outside_in_bytes(random: &mut Random) -> (u64, u64) {
     }
 }
 
-fn byte_in_frame(random: &mut Random) -> u64 {
+pub fn byte_in_frame(random: &mut Random) -> u64 {
     let anywhere = random.below(FRAME_SIZE);
     random.pick(&[0, 0, 1, FRAME_SIZE - 2, FRAME_SIZE - 1, anywhere])
 }

@@ -1,21 +1,13 @@
-//! Whole boots on both sides: see ../../../README.md.
+//! Whole boots on both sides.
 
-mod area;
-mod chosen;
 mod compare;
 mod counts;
-mod departures;
-mod domain;
-mod generate;
+pub mod domain;
+pub mod generate;
 mod judge;
-mod line;
-mod ours;
-mod panics;
-mod record;
-mod replay;
 mod small;
-mod theirs;
+mod sources;
 
 pub use compare::compare;
-pub use departures::{ask_rust, show};
-pub use replay::write_list;
+pub use counts::Row;
+pub use sources::sources;

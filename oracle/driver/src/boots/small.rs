@@ -1,7 +1,7 @@
 //! Small worlds, whole: every boot of a few areas in six frames.
 
-use super::area::{Area, Boot, Unit};
-use crate::domain::TOP;
+use crate::allocator::area::{Area, Boot, Unit};
+use crate::frames::TOP;
 
 const FRAMES: u64 = 6;
 

@@ -54,23 +54,29 @@ allocate-frames-at-requires c κs = search needs
 tell-requires-3 : tie.Need-tell-requires-3
 tell-requires-3 c κs = search needs
 
+enum-known-start-3 : tie.Need-enum-known-start-3
+enum-known-start-3 c = search needs
+
+new-requires : tie.Need-new-requires
+new-requires c κs = search needs
+
+return-frames-requires : tie.Need-return-frames-requires
+return-frames-requires c κs = search needs
+
+tell-requires-4 : tie.Need-tell-requires-4
+tell-requires-4 c κs = search needs
+
 enum-told-3 : tie.Need-enum-told-3
 enum-told-3 c = search needs
-
-bad-requires : tie.Need-bad-requires
-bad-requires c κs = search needs
-
-enum-told-4 : tie.Need-enum-told-4
-enum-told-4 c = search needs
 
 list-requires : tie.Need-list-requires
 list-requires c κs = search needs
 
-enum-told-5 : tie.Need-enum-told-5
-enum-told-5 c = search needs
+enum-told-4 : tie.Need-enum-told-4
+enum-told-4 c = search needs
 
-bad-requires-2 : tie.Need-bad-requires-2
-bad-requires-2 c κs = search needs
+bad-requires : tie.Need-bad-requires
+bad-requires c κs = search needs
 
 same-length : tie.Need-same-length
 same-length c = search needs
@@ -127,15 +133,21 @@ returns-6 : tie.Need-returns-6
 returns-6 c =
     ready-on (c .before .before .tell3 .ensures) (omega arith) (c .before .before .before .before .before .before .before .before .before .before .before .before .before .before .before .before .pre)
 
-returns-7 : tie.Need-returns-7
-returns-7 c =
-    ready-on (c .bad .ensures) (omega arith) (c .before .before .before .before .before .before .before .before .pre)
-
 same-length-12 : tie.Need-same-length-12
 same-length-12 c = search needs
 
 same-length-13 : tie.Need-same-length-13
 same-length-13 c = search needs
+
+returns-7 : tie.Need-returns-7
+returns-7 c =
+    ready-on (c .before .before .tell4 .ensures) (omega arith) (c .before .before .before .before .before .before .before .before .before .before .before .before .before .before .before .before .before .pre)
+
+same-length-14 : tie.Need-same-length-14
+same-length-14 c = search needs
+
+same-length-15 : tie.Need-same-length-15
+same-length-15 c = search needs
 
 returns-8 : tie.Need-returns-8
 returns-8 c =
@@ -143,7 +155,7 @@ returns-8 c =
 
 returns-9 : tie.Need-returns-9
 returns-9 c =
-    ready-on (c .bad2 .ensures) (omega arith) (c .before .before .before .before .before .before .before .before .pre)
+    ready-on (c .bad .ensures) (omega arith) (c .before .before .before .before .before .before .before .before .pre)
 
 pub answer-spec : {M : Type 1} → statement M
 answer-spec =
@@ -165,12 +177,14 @@ answer-spec =
     enum-known-frame
     allocate-frames-at-requires
     tell-requires-3
+    enum-known-start-3
+    new-requires
+    return-frames-requires
+    tell-requires-4
     enum-told-3
-    bad-requires
-    enum-told-4
     list-requires
-    enum-told-5
-    bad-requires-2
+    enum-told-4
+    bad-requires
     same-length
     returns
     same-length-2
@@ -188,8 +202,10 @@ answer-spec =
     same-length-10
     same-length-11
     returns-6
-    returns-7
     same-length-12
     same-length-13
+    returns-7
+    same-length-14
+    same-length-15
     returns-8
     returns-9)

@@ -9,16 +9,16 @@ use Rattle.framebench.proofs.answers.print_list.Tie as tie
 write-list-requires : tie.Need-write-list-requires
 write-list-requires c κs = search needs
 
-slice-reshare-prefix-text : tie.Need-slice-reshare-prefix-text
-slice-reshare-prefix-text c =
+slice-reshare-prefix-print : tie.Need-slice-reshare-prefix-print
+slice-reshare-prefix-print c =
     omega (arith, puts-inside (omega arith) (c .before .before .write-list .ensures))
 
-slice-aggregate-text : tie.Need-slice-aggregate-text
-slice-aggregate-text c =
+slice-aggregate-print : tie.Need-slice-aggregate-print
+slice-aggregate-print c =
     simp length-take (omega (arith, puts-inside (omega arith) (c .before .before .before .write-list .ensures)))
 
-text-requires : tie.Need-text-requires
-text-requires c κs = search needs
+print-requires : tie.Need-print-requires
+print-requires c κs = search needs
 
 same-length : tie.Need-same-length
 same-length c = search needs
@@ -31,8 +31,8 @@ print-list-spec =
     tie.close
     (tie.spec
     write-list-requires
-    slice-reshare-prefix-text
-    slice-aggregate-text
-    text-requires
+    slice-reshare-prefix-print
+    slice-aggregate-print
+    print-requires
     same-length
     returns)

@@ -1,0 +1,65 @@
+// Areas given as address, size in bytes and kind: each is the frames that it touches.
+ghost use mathlib.Core.Path.{_≡_};
+ghost use Prim.Native.Nat.{_<_};
+ghost use lib.ListN.{length, getD};
+ghost use Rattle.areas.specs.Areas.{Collects, bootByteArea, bootByteAreas, piecesIn};
+ghost use Rattle.boot.specs.Boots.{Surveys};
+ghost use Rattle.carving.specs.Ranges.{listed, rangesIn, Carvable};
+ghost use Rattle.maps.specs.Maps.{noByteArea};
+use crate::carve_area;
+use areas::BootArea;
+use areas::Collected;
+use boot::Survey;
+use carving::RangeList;
+use model::ByteArea;
+
+// What a boot needs of these areas.
+pub fn survey(areas: &[ByteArea]) -> Survey
+    ensures { λ r. ⌜ Surveys (bootByteAreas (now (areas .entry))) r ⌝ }
+{
+    let collected = collect(areas);
+    let pieces = carve(areas, boot::carvable(collected));
+    Survey { collected, pieces }
+}
+
+// The reserved areas, and what 4 and 2 look at.
+fn collect(areas: &[ByteArea]) -> Collected
+    ensures { λ r. ⌜ Collects (bootByteAreas (now (areas .entry))) r ⌝ }
+{
+    let mut c = areas::nothing_collected();
+    let mut i = 0;
+    while i < areas.len() {
+        c = areas::collect_area(c, area_at(areas, i));
+        i += 1;
+    }
+    c
+}
+
+// The pieces of the general areas, in the given order.
+fn carve(areas: &[ByteArea], reserved: RangeList) -> RangeList
+    requires { ⌜ Carvable reserved ⌝ }
+    ensures { λ r. ⌜ r ≡ listed (piecesIn (rangesIn reserved) (bootByteAreas (now (areas .entry)))) ⌝ }
+{
+    let mut pieces = carving::no_ranges();
+    let mut i = 0;
+    while i < areas.len() {
+        pieces = carve_area(area_at(areas, i), reserved, pieces);
+        i += 1;
+    }
+    pieces
+}
+
+// The area at i, as boot takes it.
+fn area_at(areas: &[ByteArea], i: usize) -> BootArea
+    requires { ⌜ i < length (now areas) ⌝ }
+    ensures { λ r. ⌜ r ≡ bootByteArea (getD (now (areas .entry)) i noByteArea) ⌝ }
+{
+    boot_area(areas[i])
+}
+
+fn boot_area(area: ByteArea) -> BootArea
+    ensures { λ r. ⌜ r ≡ bootByteArea area ⌝ }
+{
+    let kind = area.kind;
+    areas::area_in_bytes(area.address, area.bytes, kind)
+}

@@ -1,0 +1,109 @@
+//! How often each number occurred of each call, and each row, in early and in sorted form.
+
+use super::judge::{Judge, Judgement};
+use super::rows::Row;
+use crate::allocator::call::{Call, Kind};
+use crate::allocator::state::State;
+
+const NUMBERS: usize = 20;
+
+pub struct Counts {
+    lists: u64,
+    /// By call, number, form and judge.
+    numbers: [[[[u64; 2]; 2]; NUMBERS]; Kind::ALL.len()],
+    /// By row and form.
+    rows: [[u64; 2]; Row::ALL.len()],
+}
+
+/// The numbers that a call can have.
+fn possible(kind: Kind, sorted: bool) -> &'static [u64] {
+    match (kind, sorted) {
+        (Kind::Boot | Kind::BootBytes, _) => &[0, 2, 4, 5, 6, 7, 10],
+        (Kind::Sort, _) => &[0],
+        (Kind::Count, _) => &[0, 1, 14],
+        (Kind::CountBytes, _) => &[0, 1, 2, 14],
+        (Kind::At | Kind::AtBytes, false) => &[0, 1, 2, 13, 16, 18],
+        (Kind::At | Kind::AtBytes, true) => &[0, 1, 2, 12, 13, 16, 17, 18],
+        (Kind::GeneralAt, false) => &[0, 1, 2, 12, 18],
+        (Kind::GeneralAt, true) => &[0, 1, 2, 12, 15, 17, 18],
+        (Kind::Return, _) => &[0, 2, 18, 19],
+    }
+}
+
+impl Counts {
+    pub fn new() -> Counts {
+        Counts {
+            lists: 0,
+            numbers: [[[[0; 2]; 2]; NUMBERS]; Kind::ALL.len()],
+            rows: [[0; 2]; Row::ALL.len()],
+        }
+    }
+
+    pub fn add_list(&mut self) {
+        self.lists += 1;
+    }
+
+    pub fn add(&mut self, call: &Call, before: &State, judgement: &Judgement) {
+        let form = usize::from(before.is_sorted());
+        let number = judgement.answer.number as usize;
+        self.numbers[call.kind() as usize][number][form][judgement.judge as usize] += 1;
+        for row in Row::of(call, before, judgement) {
+            self.rows[row as usize][form] += 1;
+        }
+    }
+
+    /// What can occur and did not, and what did and cannot.
+    pub fn faults(&self) -> Vec<String> {
+        let forms = [(false, "early"), (true, "sorted")];
+        let mut faults = Vec::new();
+        for (sorted, form) in forms {
+            for kind in Kind::ALL {
+                for number in 0..NUMBERS as u64 {
+                    let by_form = &self.numbers[kind as usize][number as usize];
+                    let occurred = by_form[usize::from(sorted)] != [0; 2];
+                    if occurred != possible(kind, sorted).contains(&number) {
+                        let how = if occurred { "cannot be" } else { "never" };
+                        faults.push(format!("{}, {form} form: {how} {number}", kind.name()));
+                    }
+                }
+            }
+            for row in Row::ALL {
+                let occurred = self.rows[row as usize][usize::from(sorted)] > 0;
+                if occurred != row.can_occur_in(sorted) {
+                    let how = if occurred { "cannot be" } else { "never" };
+                    faults.push(format!("{form} form: {how} \"{}\"", row.label().trim()));
+                }
+            }
+        }
+        faults
+    }
+
+    pub fn print(&self) {
+        let all: u64 = self.numbers.as_flattened().as_flattened().as_flattened().iter().sum();
+        println!("lists of calls: {}, calls: {all}", self.lists);
+        println!(
+            "{:<40}{:>14}{:>14}{:>14}{:>14}",
+            "calls", "early", "by doc. 01", "sorted", "by doc. 01"
+        );
+        for kind in Kind::ALL {
+            for (number, forms) in self.numbers[kind as usize].iter().enumerate() {
+                let [early, sorted] = forms;
+                if *forms != [[0; 2]; 2] {
+                    println!(
+                        "{:<40}{:>14}{:>14}{:>14}{:>14}",
+                        format!("{} {number}", kind.name()),
+                        early[Judge::Rust as usize],
+                        early[Judge::Document as usize],
+                        sorted[Judge::Rust as usize],
+                        sorted[Judge::Document as usize],
+                    );
+                }
+            }
+        }
+        println!("{:<40}{:>14}{:>28}", "of requests", "early", "sorted");
+        for row in Row::ALL {
+            let [early, sorted] = self.rows[row as usize];
+            println!("{:<40}{early:>14}{sorted:>28}", row.label());
+        }
+    }
+}

@@ -1,0 +1,18 @@
+//! Lists of calls on both sides.
+
+mod chosen_boots;
+mod chosen_requests;
+mod compare;
+mod counts;
+mod departures;
+mod domain;
+mod generate;
+mod judge;
+mod line;
+mod replay;
+mod rows;
+mod small;
+
+pub use compare::compare;
+pub use departures::{ask_rust, show};
+pub use replay::write_list;
