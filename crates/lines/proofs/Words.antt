@@ -5,8 +5,8 @@ use native.Mathlib.Numerals.{add-one}
 use mathlib.Core.Path.{_≡_, refl, sym, ap, _∙_}
 use mathlib.Core.Bool.{Bool, true, false, cond, _&&_, false≢true}
 use mathlib.Core.List.{List, [], _∷_}
-use lib.ListN.{length, getD, take, drop, set, drop-of-length-le}
-use lib.Seq.{drop-cons, drop-drop, take-length}
+use lib.ListN.{length, getD, take, drop, set, drop-of-length-le, length-drop}
+use lib.Seq.{drop-cons, drop-drop, take-all, take-length}
 use lib.Dec.{ltb, eqb}
 use borrow.Author.Tests.{ltb-true, le-leb, lt-leb, lt-ltb, le-ltb, eqb-true, eq-eqb, ne-eqb}
 use Rattle.bytes.specs.Bytes.{slice, indexOf, indexAfter}
@@ -117,6 +117,10 @@ put-full n r ws full = rw (le-ltb (r .len) (length ws) full)
 
 -- ---- the words of a text
 
+-- a part that reaches to the end
+pub to-end : (n : ℕ) (l : List ℕ) → take (length l - n) (drop n l) ≡ drop n l
+to-end n l = take-all (length l - n) (drop n l) (omega (arith, length-drop n l))
+
 after-byte : (t : Bool) (b : ℕ) (bs : List ℕ) → wordsIn bs ≡ take (indexOf 32 bs) bs ∷ wordsAfter (drop (indexOf 32 bs) bs) →
     cond t ([] ∷ wordsIn bs) (inFront b (wordsIn bs)) ≡ take (indexAfter t (indexOf 32 bs)) (b ∷ bs) ∷ wordsAfter (drop (indexAfter t (indexOf 32 bs)) (b ∷ bs))
 unfolding indexAfter wordsAfter inFront
@@ -124,7 +128,7 @@ after-byte true b bs e = refl
 after-byte false b bs e = ap (inFront b) e
 
 -- the first word ends before the first space
-first-word : (bs : List ℕ) → wordsIn bs ≡ take (indexOf 32 bs) bs ∷ wordsAfter (drop (indexOf 32 bs) bs)
+pub first-word : (bs : List ℕ) → wordsIn bs ≡ take (indexOf 32 bs) bs ∷ wordsAfter (drop (indexOf 32 bs) bs)
 unfolding wordsIn wordsAfter indexOf
 first-word [] = refl
 first-word (b ∷ bs) = after-byte (eqb b 32) b bs (first-word bs)
