@@ -10,6 +10,11 @@
 //   at_bytes A N       requests N bytes from address A on
 //   general_at S N     requests N general frames from frame S on
 //   return S E         returns the frames from S to E
+//   kind S E           asks for the kind of the frames from S to E
+//   total general      asks how many general frames are free
+//   total reserved     asks how many reserved frames are free
+//   held               asks for the held list, in a buffer of 2,048 words
+//   held_short         the same, in a buffer of 2,047 words
 //   lists              calls nothing, and shows the record
 //
 // One of these may stand before a call:
@@ -18,8 +23,9 @@
 //   broken_slot        calls with a copy of the record that breaks a rule: a slot is used and has no frame
 //   broken_word        calls with another last word, which breaks a rule in sorted form: an unused word is not 0
 //
-// A line of standard output is what the call answers, `done`, `granted` and the range, or `refused` and the number; the form and the
-// four lists; or `(bad)`. The file `stdout` holds what document 01 and the Rust answer; oracle/README.md says how it was made.
+// A line of standard output is what the call answers, `done`, `granted` and the range, `counted` and the count, after which the held list
+// has its runs, or `refused` and the number; the form and the four lists; or `(bad)`. The file `stdout` holds what document 01 and the Rust answer; oracle/README.md says how it was made.
+mod asked;
 mod broken;
 mod calls;
 mod reading;
@@ -29,7 +35,6 @@ mod written;
 ghost use Prim.Native.Nat.{_≤_};
 ghost use lib.ListN.{length};
 use model::FrameAllocator;
-use reading::Way;
 
 // Reads up to 262,144 bytes of text.
 fn main() {
@@ -72,7 +77,7 @@ fn answer_line(
 fn answer_call(
     a: FrameAllocator,
     words: &mut [u64],
-    way: Way,
+    way: usize,
     line: &[u8],
     numbers: &mut [u64],
 ) -> FrameAllocator
@@ -80,9 +85,9 @@ fn answer_call(
 {
     let name_end = bytes::scan::find(line, 0, line.len(), b' ');
     let name = &line[..name_end];
-    let read = lines::read_words(line, name_end, reading::layout_of(name), numbers);
+    let asked = reading::asked_by(line, name);
+    let read = lines::read_words(line, name_end, reading::layout_of(asked), numbers);
     let len = read.len;
     let numbers = &numbers[..len];
-    let asked = reading::asked_by(name, read, numbers);
-    calls::answer(a, words, way, asked, numbers)
+    calls::answer(a, words, way, reading::checked(asked, read), numbers)
 }

@@ -1,144 +1,136 @@
-// What a line asks for: see `main`.
+// What a line asks for: see `main`. A word is known by its place among some words; a plain number keeps the proofs of what handles it
+// small, where an enum with values is spelt out at each step.
 ghost use Prim.Native.Nat.{_≤_};
 use lines::Layout;
 use lines::Reading;
-use memory_structs::FrameRange;
-use requests::Request;
 
-// What a call is made with: the record and the workspace as they are, a short workspace, a broken record, or a broken workspace.
-pub enum Way {
-    Plain,
-    Short,
-    BrokenSlot,
-    BrokenWord,
-}
+// What a call is made with: a short workspace, a broken record, a broken workspace; or the record and the workspace as they are.
+pub const SHORT: usize = 0;
 
-pub enum Asked {
-    Fresh,
-    Lists,
-    Call(Call),
-    Nothing,
-}
+pub const BROKEN_SLOT: usize = 1;
 
-// A call of the allocator. A boot's areas stand in the lent words.
-pub enum Call {
-    Boot,
-    BootBytes,
-    Sort,
-    Request(Request),
-    Return(FrameRange),
-}
+pub const BROKEN_WORD: usize = 2;
+
+pub const PLAIN: usize = 3;
+
+// Lines that are known whole, then those that have numbers, then any other.
+pub const FRESH: usize = 0;
+
+pub const LISTS: usize = 1;
+
+pub const SORT: usize = 2;
+
+pub const TOTAL_GENERAL: usize = 3;
+
+pub const TOTAL_RESERVED: usize = 4;
+
+pub const HELD: usize = 5;
+
+pub const HELD_SHORT: usize = 6;
+
+pub const BOOT: usize = 7;
+
+pub const BOOT_BYTES: usize = 8;
+
+pub const COUNT: usize = 9;
+
+pub const COUNT_BYTES: usize = 10;
+
+pub const AT: usize = 11;
+
+pub const AT_BYTES: usize = 12;
+
+pub const GENERAL_AT: usize = 13;
+
+pub const RETURN: usize = 14;
+
+pub const KIND: usize = 15;
+
+pub const NOTHING: usize = 16;
 
 // The way that the line's first word names; a line that begins with its call is plain.
-pub fn way_of(word: &[u8]) -> Way {
-    if check::same(word, b"short") {
-        return Way::Short;
-    }
-    if check::same(word, b"broken_slot") {
-        return Way::BrokenSlot;
-    }
-    if check::same(word, b"broken_word") {
-        return Way::BrokenWord;
-    }
-    Way::Plain
+pub fn way_of(word: &[u8]) -> usize {
+    place_of(word, b"short,broken_slot,broken_word")
 }
 
 // Where the call begins: past the word for the way and its space, if there are any.
-pub fn call_start(way: Way, first_end: usize, len: usize) -> usize
+pub fn call_start(way: usize, first_end: usize, len: usize) -> usize
     ensures { λ r. ⌜ r ≤ len ⌝ }
 {
-    match way {
-        Way::Plain => 0,
-        _ => if first_end < len { first_end + 1 } else { len },
+    if way == PLAIN {
+        return 0;
     }
+    if first_end < len {
+        return first_end + 1;
+    }
+    len
 }
 
-pub fn layout_of(name: &[u8]) -> Layout {
-    if is_boot(name) {
+// What the line asks for by itself, or by its name with numbers after it.
+pub fn asked_by(line: &[u8], name: &[u8]) -> usize {
+    let whole = place_of(
+        line,
+        b"fresh,lists,sort,total general,total reserved,held,held_short",
+    );
+    if whole < BOOT {
+        return whole;
+    }
+    named(place_of(
+        name,
+        b"boot,boot_bytes,count,count_bytes,at,at_bytes,general_at,return,kind",
+    ))
+}
+
+fn named(place: usize) -> usize {
+    if place < 9 { BOOT + place } else { NOTHING }
+}
+
+pub fn layout_of(asked: usize) -> Layout {
+    if is_boot(asked) {
         Layout::Areas
     } else {
         Layout::Numbers
     }
 }
 
-fn is_boot(name: &[u8]) -> bool {
-    check::same(name, b"boot") || check::same(name, b"boot_bytes")
+fn is_boot(asked: usize) -> bool {
+    asked == BOOT || asked == BOOT_BYTES
 }
 
-// What the name asks for with the words that were read, which these numbers stand for.
-pub fn asked_by(name: &[u8], read: Reading, numbers: &[u64]) -> Asked {
-    if is_boot(name) {
-        return boot(name, read);
-    }
-    if !read.valid {
-        return Asked::Nothing;
-    }
-    if numbers.len() == 0 {
-        return alone(name);
-    }
-    if numbers.len() == 1 {
-        return with_one(name, numbers[0]);
-    }
-    if numbers.len() == 2 {
-        return with_two(name, numbers[0], numbers[1]);
-    }
-    Asked::Nothing
+// What is asked for, if it takes the words that were read.
+pub fn checked(asked: usize, read: Reading) -> usize {
+    if takes(asked, read) { asked } else { NOTHING }
 }
 
-fn boot(name: &[u8], read: Reading) -> Asked {
-    if !lines::are_areas(read) {
-        return Asked::Nothing;
+fn takes(asked: usize, read: Reading) -> bool {
+    if asked < BOOT {
+        return true;
     }
-    if check::same(name, b"boot") {
-        return Asked::Call(Call::Boot);
+    if is_boot(asked) {
+        return lines::are_areas(read);
     }
-    Asked::Call(Call::BootBytes)
+    if asked < AT {
+        return read.valid && read.len == 1;
+    }
+    read.valid && read.len == 2
 }
 
-fn alone(name: &[u8]) -> Asked {
-    if check::same(name, b"fresh") {
-        return Asked::Fresh;
-    }
-    if check::same(name, b"lists") {
-        return Asked::Lists;
-    }
-    if check::same(name, b"sort") {
-        return Asked::Call(Call::Sort);
-    }
-    Asked::Nothing
+// The number at a place, or 0 where there is none.
+pub fn number_at(numbers: &[u64], i: usize) -> u64 {
+    if i < numbers.len() { numbers[i] } else { 0 }
 }
 
-fn with_one(name: &[u8], n: u64) -> Asked {
-    if check::same(name, b"count") {
-        return Asked::Call(Call::Request(Request::Frames { num_frames: n }));
+// The place of a word among words that commas part, or how many these are where it is none of them.
+fn place_of(word: &[u8], words: &[u8]) -> usize {
+    let mut place = 0;
+    let mut at = 0;
+    while at < words.len() {
+        let end = bytes::scan::find(words, at, words.len(), b',');
+        if check::same(word, &words[at..end]) {
+            return place;
+        }
+        place += 1;
+        at = end + 1;
     }
-    if check::same(name, b"count_bytes") {
-        return Asked::Call(Call::Request(Request::Bytes { num_bytes: n }));
-    }
-    Asked::Nothing
-}
-
-fn with_two(name: &[u8], from: u64, n: u64) -> Asked {
-    if check::same(name, b"at") {
-        return Asked::Call(Call::Request(Request::FramesAt {
-            frame: from,
-            num_frames: n,
-        }));
-    }
-    if check::same(name, b"at_bytes") {
-        return Asked::Call(Call::Request(Request::BytesAt {
-            address: from,
-            num_bytes: n,
-        }));
-    }
-    if check::same(name, b"general_at") {
-        return Asked::Call(Call::Request(Request::GeneralFramesAt {
-            frame: from,
-            num_frames: n,
-        }));
-    }
-    if check::same(name, b"return") {
-        return Asked::Call(Call::Return(FrameRange::new(from, n)));
-    }
-    Asked::Nothing
+    place
 }

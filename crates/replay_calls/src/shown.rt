@@ -1,6 +1,5 @@
 // A record's lists and an answer as words of a line.
 ghost use Prim.Native.Nat.{_≤_};
-ghost use mathlib.Core.Path.{_≡_};
 ghost use lib.ListN.{length};
 use crate::written;
 use lists::OneList;
@@ -56,7 +55,24 @@ fn put_range(name: &[u8], r: FrameRange) {
     put_entry(r.start, r.end);
 }
 
-// The form and the four lists by name, each in stored order as starts and ends. Of more entries than a table can have, none show.
+// `counted` and the count where a question is accepted, else as any answer.
+pub fn count(answer: Answer) {
+    if answer.number == 0 && answer.frame == 0 {
+        written::text(b"counted");
+        written::number(answer.count);
+    } else {
+        self::answer(answer);
+    }
+}
+
+// A held list: the count, and so many runs of the buffer.
+pub fn runs(answer: Answer, buffer: &[u64]) {
+    count(answer);
+    put_pairs(buffer, answer.count as usize);
+    written::end();
+}
+
+// The form and the four lists by name, each in stored order as starts and ends.
 pub fn record(a: FrameAllocator, words: &[u64])
     requires { ⌜ 4096 ≤ length (now words) ⌝ }
 {
@@ -65,16 +81,14 @@ pub fn record(a: FrameAllocator, words: &[u64])
     put_regions(a, words);
 }
 
+// Each of the two lists of frames that are free, with its part of the words.
 fn put_free(a: FrameAllocator, words: &[u64])
     requires { ⌜ 4096 ≤ length (now words) ⌝ }
 {
+    written::text(b" general_free");
+    put_list(lists::list_of(a, WhichList::GeneralFree), &words[0..1024]);
+    written::text(b" reserved_free");
     put_list(
-        b" general_free",
-        lists::list_of(a, WhichList::GeneralFree),
-        &words[0..1024],
-    );
-    put_list(
-        b" reserved_free",
         lists::list_of(a, WhichList::ReservedFree),
         &words[1024..2048],
     );
@@ -83,13 +97,13 @@ fn put_free(a: FrameAllocator, words: &[u64])
 fn put_regions(a: FrameAllocator, words: &[u64])
     requires { ⌜ 4096 ≤ length (now words) ⌝ }
 {
+    written::text(b" general_regions");
     put_list(
-        b" general_regions",
         lists::list_of(a, WhichList::GeneralRegions),
         &words[2048..3072],
     );
+    written::text(b" reserved_regions");
     put_list(
-        b" reserved_regions",
         lists::list_of(a, WhichList::ReservedRegions),
         &words[3072..4096],
     );
@@ -103,22 +117,20 @@ fn put_form(sorted: bool) {
     }
 }
 
-// A list and its part of the words.
-fn put_list(name: &[u8], list: OneList, t: &[u64])
-    requires { ⌜ length (now t) ≡ 1024 ⌝ }
-{
-    written::text(name);
+fn put_list(list: OneList, t: &[u64]) {
     if list.sorted {
-        put_table(t, list.len);
+        put_pairs(t, list.len);
     } else {
         put_slots(list.early);
     }
 }
 
-fn put_table(t: &[u64], len: usize)
-    requires { ⌜ length (now t) ≡ 1024 ⌝ }
-{
-    if 512 < len {
+// Of more pairs than the words can have, none show.
+fn put_pairs(t: &[u64], len: usize) {
+    if 1024 < len {
+        return;
+    }
+    if t.len() < 2 * len {
         return;
     }
     let mut i = 0;

@@ -19,8 +19,8 @@ const USAGE: &str = "usage: run [--random CALLS] [--boots BOOTS] [--calls CALLS]
 /// Range and frame calls. About 34 million of these lie inside the domain, so that the Rust itself answers them.
 const RANDOM_CALLS: u64 = 40_000_000;
 const RANDOM_BOOTS: u64 = 1_000_000;
-/// Calls in random lists.
-const LISTED_CALLS: u64 = 4_000_000;
+/// Calls in random lists; every second one is a question.
+const LISTED_CALLS: u64 = 8_000_000;
 const SEED: u64 = 1;
 
 fn main() -> ExitCode {

@@ -107,6 +107,12 @@ impl FreeFrames {
         drop(into_unmapped_frames(frames));
     }
 
+    /// Whether frames of these numbers, made as the callback of `init` makes them, are of the reserved
+    /// kind. They are not dropped, so it changes no list.
+    pub fn window_is_reserved(frames: FrameRange) -> bool {
+        ManuallyDrop::new(into_unmapped_frames(frames)).typ == MemoryRegionType::Reserved
+    }
+
     /// Where the search of the general list finds only some of these frames: the first absent one, and
     /// how many are. The calls turn this error into a string without them. It changes no list.
     pub fn window_missing(frame: Frame, num_frames: usize) -> Option<(Frame, usize)> {

@@ -11,6 +11,9 @@ find-requires c κs = search needs
 slice-aggregate-name : tie.Need-slice-aggregate-name
 slice-aggregate-name c = simp length-take (omega arith)
 
+asked-by-requires : tie.Need-asked-by-requires
+asked-by-requires c κs = search needs
+
 layout-of-requires : tie.Need-layout-of-requires
 layout-of-requires c κs = search needs
 
@@ -23,8 +26,8 @@ slice-reshare-prefix-numbers c = search needs
 slice-aggregate-numbers : tie.Need-slice-aggregate-numbers
 slice-aggregate-numbers c = simp length-take (omega arith)
 
-asked-by-requires : tie.Need-asked-by-requires
-asked-by-requires c κs = search needs
+checked-requires : tie.Need-checked-requires
+checked-requires c κs = search needs
 
 answer-requires : tie.Need-answer-requires
 answer-requires c κs = search needs
@@ -44,11 +47,12 @@ answer-call-spec =
     (tie.spec
     find-requires
     slice-aggregate-name
+    asked-by-requires
     layout-of-requires
     read-words-requires
     slice-reshare-prefix-numbers
     slice-aggregate-numbers
-    asked-by-requires
+    checked-requires
     answer-requires
     same-length
     same-length-2

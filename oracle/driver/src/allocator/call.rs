@@ -18,6 +18,12 @@ pub enum Call {
     /// So many general frames from this one on.
     GeneralAt(u64, u64),
     Return(Range),
+    /// The kind of a range. This and the next two are questions, which change nothing.
+    Kind(Range),
+    /// The free total of the general or of the reserved list.
+    Total(bool),
+    /// The held list, in a buffer of so many words.
+    Held(usize),
 }
 
 /// Which call it is, without operands.
@@ -32,10 +38,16 @@ pub enum Kind {
     AtBytes,
     GeneralAt,
     Return,
+    KindOfRange,
+    FreeTotal,
+    HeldList,
 }
 
+/// A held list's buffer has so many words at least.
+pub const BUFFER: usize = 2048;
+
 impl Kind {
-    pub const ALL: [Kind; 9] = [
+    pub const ALL: [Kind; 12] = [
         Kind::Boot,
         Kind::BootBytes,
         Kind::Sort,
@@ -45,6 +57,9 @@ impl Kind {
         Kind::AtBytes,
         Kind::GeneralAt,
         Kind::Return,
+        Kind::KindOfRange,
+        Kind::FreeTotal,
+        Kind::HeldList,
     ];
 
     fn of(unit: Unit) -> Kind {
@@ -65,6 +80,9 @@ impl Kind {
             Kind::AtBytes => "at_bytes",
             Kind::GeneralAt => "general_at",
             Kind::Return => "return",
+            Kind::KindOfRange => "kind",
+            Kind::FreeTotal => "total",
+            Kind::HeldList => "held",
         }
     }
 }
@@ -80,7 +98,13 @@ impl fmt::Display for Call {
             Call::At(start, count)
             | Call::AtBytes(start, count)
             | Call::GeneralAt(start, count) => write!(f, "{name} {start} {count}"),
-            Call::Return(range) => write!(f, "{name} {} {}", range.start, range.end),
+            Call::Return(range) | Call::Kind(range) => {
+                write!(f, "{name} {} {}", range.start, range.end)
+            }
+            Call::Total(reserved) => {
+                write!(f, "{name} {}", if *reserved { "reserved" } else { "general" })
+            }
+            Call::Held(words) => f.write_str(if *words < BUFFER { "held_short" } else { name }),
         }
     }
 }
@@ -103,7 +127,14 @@ impl Call {
             Call::AtBytes(..) => Kind::AtBytes,
             Call::GeneralAt(..) => Kind::GeneralAt,
             Call::Return(_) => Kind::Return,
+            Call::Kind(_) => Kind::KindOfRange,
+            Call::Total(_) => Kind::FreeTotal,
+            Call::Held(_) => Kind::HeldList,
         }
+    }
+
+    pub fn is_question(&self) -> bool {
+        matches!(self, Call::Kind(_) | Call::Total(_) | Call::Held(_))
     }
 
     /// The frames that a request names, if it names an address and asks for a frame, and if they end

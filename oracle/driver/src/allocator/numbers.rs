@@ -19,6 +19,7 @@ pub fn answer(reply: Reply) -> Answer {
     match reply {
         Reply::Done => Answer::DONE,
         Reply::Granted(range) => Answer::granted(range),
+        Reply::Counted(count) => Answer::counted(count),
         Reply::OnlySome(frame, count) => Answer::missing(frame, count),
         Reply::Err(error) => Answer::refused(of_error(error)),
         Reply::Panic(reason) => Answer::refused(of_panic(reason)),

@@ -2,7 +2,7 @@
 
 use super::area::{Boot, Unit};
 use super::call::Call;
-use super::record::{Answer, Called, FrameAllocator, Stored};
+use super::record::{Answer, Called, FrameAllocator, Stored, UNREAD};
 use crate::frames::Range;
 
 #[rustfmt::skip]
@@ -15,12 +15,16 @@ extern "C" {
     fn likhmout_allocate_frames_at(a: FrameAllocator, words: *mut u64, len: usize, frame: u64, count: u64) -> Called;
     fn likhmout_allocate_frames_by_bytes_at(a: FrameAllocator, words: *mut u64, len: usize, address: u64, bytes: u64) -> Called;
     fn likhmout_allocate_general_frames_at(a: FrameAllocator, words: *mut u64, len: usize, frame: u64, count: u64) -> Called;
+    fn likhmout_kind(a: FrameAllocator, words: *const u64, len: usize, start: u64, end: u64) -> Answer;
+    fn likhmout_free_total(a: FrameAllocator, words: *const u64, len: usize, kind: u64) -> Answer;
+    fn likhmout_held_list(a: FrameAllocator, words: *const u64, len: usize, buffer: *mut u64, buffer_len: usize) -> Answer;
     fn likhmout_return_frames(a: FrameAllocator, words: *mut u64, len: usize, start: u64, end: u64) -> Called;
 }
 
 /// Makes the call, and leaves the record that it hands back.
 pub fn answer(call: &Call, stored: &mut Stored) -> Answer {
     let (a, words, len) = (stored.allocator, stored.words.as_mut_ptr(), stored.words.len());
+    let asked = |answer: Answer| Called { answer, allocator: a };
     // SAFETY: the library reads and writes the words, and no more than their length.
     let called = unsafe {
         match *call {
@@ -36,10 +40,31 @@ pub fn answer(call: &Call, stored: &mut Stored) -> Answer {
                 likhmout_allocate_general_frames_at(a, words, len, frame, count)
             }
             Call::Return(Range { start, end }) => likhmout_return_frames(a, words, len, start, end),
+            Call::Kind(Range { start, end }) => asked(likhmout_kind(a, words, len, start, end)),
+            Call::Total(reserved) => asked(likhmout_free_total(a, words, len, reserved.into())),
+            Call::Held(buffer) => asked(held_list(buffer, stored)),
         }
     };
     stored.allocator = called.allocator;
     called.answer
+}
+
+/// The held list, in a buffer of so many words, which hold marks before.
+fn held_list(buffer_len: usize, stored: &mut Stored) -> Answer {
+    let (a, words, len) = (stored.allocator, stored.words.as_ptr(), stored.words.len());
+    stored.buffer = vec![UNREAD[0]; buffer_len];
+    // SAFETY: the library reads the words and writes the buffer, and no more than their lengths.
+    let answer =
+        unsafe { likhmout_held_list(a, words, len, stored.buffer.as_mut_ptr(), buffer_len) };
+    sort_runs(&mut stored.buffer, answer.count);
+    answer
+}
+
+/// Document 01 leaves the order of the runs open.
+fn sort_runs(buffer: &mut [u64], runs: u64) {
+    let (pairs, _) = buffer.as_chunks_mut::<2>();
+    let runs = pairs.len().min(runs as usize);
+    pairs[..runs].sort();
 }
 
 /// Boots with words that are only read.

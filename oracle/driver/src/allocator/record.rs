@@ -56,6 +56,11 @@ impl Answer {
         Answer { range: [range.start, range.end], ..Answer::DONE }
     }
 
+    /// A question's answer.
+    pub fn counted(count: u64) -> Answer {
+        Answer { count, ..Answer::DONE }
+    }
+
     /// 15, with the first absent frame and how many are absent.
     pub fn missing(frame: u64, count: u64) -> Answer {
         Answer { frame, count, ..Answer::refused(15) }
@@ -86,18 +91,19 @@ impl FrameAllocator {
     }
 }
 
-/// A record and its workspace.
+/// A record and its workspace, and the buffer of the last held list, if there was one.
 #[derive(Clone, PartialEq, Eq)]
 pub struct Stored {
     pub allocator: FrameAllocator,
     pub words: Vec<u64>,
+    pub buffer: Vec<u64>,
 }
 
 impl Stored {
     /// The record of a state, in a workspace that held marks.
     pub fn new(state: &State) -> Stored {
-        let mut stored =
-            Stored { allocator: FrameAllocator::of(&State::empty(false)), words: UNREAD.to_vec() };
+        let allocator = FrameAllocator::of(&State::empty(false));
+        let mut stored = Stored { allocator, words: UNREAD.to_vec(), buffer: Vec::new() };
         stored.store(state);
         stored
     }
@@ -115,6 +121,12 @@ impl Stored {
                 unused.fill(0);
             }
         }
+    }
+
+    /// A buffer of so many words, which held marks, with these runs at its beginning.
+    pub fn list(&mut self, words: usize, runs: &[Range]) {
+        self.buffer = runs.iter().flat_map(|run| [run.start, run.end]).collect();
+        self.buffer.resize(words, UNREAD[0]);
     }
 }
 
@@ -150,13 +162,19 @@ impl fmt::Display for EarlyList {
     }
 }
 
-/// Of the words the first that are neither 0 nor a mark, after their places.
+/// Of the words and the buffer the first that are neither 0 nor a mark, after their places.
 impl fmt::Display for Stored {
     fn fmt(&self, f: &mut fmt::Formatter) -> fmt::Result {
-        const SHOWN: usize = 300;
         write!(f, "{}, words", self.allocator)?;
-        let words = self.words.iter().enumerate();
-        let words = words.filter(|(_, word)| **word != 0 && **word != UNREAD[0]);
-        words.take(SHOWN).try_for_each(|(i, word)| write!(f, " {i}:{word}"))
+        write_words(f, &self.words)?;
+        write!(f, ", buffer")?;
+        write_words(f, &self.buffer)
     }
+}
+
+fn write_words(f: &mut fmt::Formatter, words: &[u64]) -> fmt::Result {
+    const SHOWN: usize = 300;
+    let words = words.iter().enumerate();
+    let words = words.filter(|(_, word)| **word != 0 && **word != UNREAD[0]);
+    words.take(SHOWN).try_for_each(|(i, word)| write!(f, " {i}:{word}"))
 }

@@ -67,6 +67,44 @@ impl State {
         sum.checked_sub(1) == Some(frames.end - frames.start)
     }
 
+    /// How many frames the entries of a list have together.
+    pub fn total(&self, list: usize) -> u64 {
+        self.entries(list).iter().map(|entry| entry.end - entry.start + 1).sum()
+    }
+
+    /// The frames of a kind's regions that are not in its free list, ascending, as runs that may touch
+    /// where regions do.
+    pub fn not_free(&self, list: usize) -> Vec<Range> {
+        let ascending = |list: usize| {
+            let mut entries = self.entries(list);
+            entries.sort_by_key(|entry| entry.start);
+            entries
+        };
+        let chunks = ascending(list);
+        let mut runs = Vec::new();
+        for region in ascending(list + GENERAL_REGIONS) {
+            let mut start = region.start;
+            for chunk in chunks.iter().filter(|chunk| chunk.meets(region)) {
+                runs.extend((start < chunk.start).then(|| Range { start, end: chunk.start - 1 }));
+                start = chunk.end + 1;
+            }
+            runs.extend((start <= region.end).then_some(Range { start, end: region.end }));
+        }
+        runs
+    }
+
+    /// The maximal runs of general frames not free, ascending.
+    pub fn held(&self) -> Vec<Range> {
+        let mut runs: Vec<Range> = Vec::new();
+        for run in self.not_free(GENERAL_FREE) {
+            match runs.last_mut() {
+                Some(last) if last.end + 1 == run.start => last.end = run.end,
+                _ => runs.push(run),
+            }
+        }
+        runs
+    }
+
     pub fn is_empty(&self) -> bool {
         (0..NAMES.len()).all(|list| self.len(list) == 0)
     }

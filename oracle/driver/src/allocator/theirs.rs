@@ -8,7 +8,7 @@
 use super::area::{Area, Boot, Unit};
 use super::call::Call;
 use super::panics::{self, Reason};
-use super::state::{Lists, State, Tables};
+use super::state::{Lists, State, Tables, GENERAL_FREE, RESERVED_FREE};
 use crate::frames::Range;
 use crate::ranges::theirs::{address, ends, frame};
 use frame_allocator::{
@@ -26,6 +26,8 @@ pub enum Reply {
     Done,
     Granted(Range),
     Err(&'static str),
+    /// What a question asks for.
+    Counted(u64),
     /// "only some of the requested frames were available": the first absent one, and how many are.
     OnlySome(u64, u64),
     /// `Ok(None)`: no frames, and no error.
@@ -57,6 +59,14 @@ pub fn reply(call: &Call) -> Reply {
             FreeFrames::window_return(frame_range(start, end));
             Reply::Done
         }
+        Call::Kind(Range { start, end }) => {
+            Reply::Counted(FreeFrames::window_is_reserved(frame_range(start, end)).into())
+        }
+        // The Rust has no such call; its lists say what it would answer.
+        Call::Total(reserved) => {
+            Reply::Counted(state().total(if reserved { RESERVED_FREE } else { GENERAL_FREE }))
+        }
+        Call::Held(_) => Reply::Counted(state().held().len() as u64),
     }
 }
 

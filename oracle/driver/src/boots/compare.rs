@@ -96,7 +96,7 @@ impl Comparison {
         let twice = Sorted::from(once.stored);
         self.note("the Rust, sorted twice", boot, &expected, &twice);
         if self.boots % AGAIN == 1 {
-            let Stored { allocator, words } = twice.stored;
+            let Stored { allocator, words, .. } = twice.stored;
             self.boot_again(source, Row::BootedSorted, boot, allocator, &words);
         }
     }

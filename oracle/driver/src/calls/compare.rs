@@ -55,7 +55,7 @@ impl Comparison {
             let judgement = Judgement::of(&call, &state);
             self.counts.add(&call, &state, &judgement);
             let answer = ours::answer(&call, &mut ours);
-            expected.store(&judgement.after);
+            judgement.store(&call, &mut expected);
             made.push(call);
             if answer != judgement.answer || ours != expected {
                 self.differences += 1;

@@ -27,6 +27,9 @@ fn possible(kind: Kind, sorted: bool) -> &'static [u64] {
         (Kind::GeneralAt, false) => &[0, 1, 2, 12, 18],
         (Kind::GeneralAt, true) => &[0, 1, 2, 12, 15, 17, 18],
         (Kind::Return, _) => &[0, 2, 18, 19],
+        (Kind::KindOfRange, _) => &[0, 2],
+        (Kind::FreeTotal, _) => &[0],
+        (Kind::HeldList, _) => &[0, 3],
     }
 }
 
@@ -100,7 +103,7 @@ impl Counts {
                 }
             }
         }
-        println!("{:<40}{:>14}{:>28}", "of requests", "early", "sorted");
+        println!("{:<40}{:>14}{:>28}", "what came of them", "early", "sorted");
         for row in Row::ALL {
             let [early, sorted] = self.rows[row as usize];
             println!("{:<40}{early:>14}{sorted:>28}", row.label());

@@ -1,7 +1,7 @@
-//! Random lists of calls, aimed at the ends of chunks and regions and at full lists.
+//! Random lists of calls with a question after each, aimed at the ends of chunks and regions and at full lists.
 
 use crate::allocator::area::{Area, Boot};
-use crate::allocator::call::Call;
+use crate::allocator::call::{Call, BUFFER};
 use crate::allocator::state::{
     State, GENERAL_FREE, GENERAL_REGIONS, RESERVED_FREE, RESERVED_REGIONS,
 };
@@ -19,6 +19,8 @@ pub struct Plan {
     longer: u64,
     /// Then so many calls of any kind.
     any: u64,
+    /// Whether a question is next.
+    asks: bool,
 }
 
 #[derive(Clone, Copy)]
@@ -44,16 +46,25 @@ impl Plan {
         let any = 1 + random.below(40);
         if random.once_in(150) {
             let opening = [Call::Boot(wide_boot(1_500, random)), Call::Sort].into();
-            return Plan { opening, filling, longer: 560, any: 100 };
+            return Plan { opening, filling, longer: 560, any: 100, asks: false };
         }
         if random.once_in(4) {
             let opening = [Call::Boot(wide_boot(100, random))].into();
-            return Plan { opening, filling, longer: 34, any };
+            return Plan { opening, filling, longer: 34, any, asks: false };
         }
-        Plan { opening: opening(random), filling, longer: 0, any }
+        Plan { opening: opening(random), filling, longer: 0, any, asks: false }
     }
 
     pub fn next(&mut self, state: &State, random: &mut Random) -> Option<Call> {
+        let asks = self.asks;
+        self.asks = !asks;
+        if asks {
+            return Some(question(state, random));
+        }
+        self.next_change(state, random)
+    }
+
+    fn next_change(&mut self, state: &State, random: &mut Random) -> Option<Call> {
         if let Some(call) = self.opening.pop_front() {
             return Some(call);
         }
@@ -131,7 +142,7 @@ fn grow(state: &State, random: &mut Random) -> Call {
 
 /// A frame or two from inside the longest held run, or where there is none, the longest chunk is taken.
 fn give(list: usize, state: &State, random: &mut Random) -> Call {
-    let runs = held(state, list);
+    let runs = state.not_free(list);
     match runs.iter().max_by_key(|run| run.end - run.start) {
         Some(run) if run.end - run.start >= 4 => {
             let start = run.start + 1 + random.below(2);
@@ -144,27 +155,11 @@ fn give(list: usize, state: &State, random: &mut Random) -> Call {
     }
 }
 
-/// The frames of a kind's regions that are not free, as runs that may touch where regions do.
-fn held(state: &State, list: usize) -> Vec<Range> {
-    let mut chunks = state.entries(list);
-    chunks.sort_by_key(|chunk| chunk.start);
-    let mut runs = Vec::new();
-    for region in state.entries(list + GENERAL_REGIONS) {
-        let mut start = region.start;
-        for chunk in chunks.iter().filter(|chunk| chunk.meets(region)) {
-            runs.extend((start < chunk.start).then(|| Range { start, end: chunk.start - 1 }));
-            start = chunk.end + 1;
-        }
-        runs.extend((start <= region.end).then_some(Range { start, end: region.end }));
-    }
-    runs
-}
-
 /// A run of held frames, a part of one, a part that reaches one frame too far, a run and what is above it;
 /// or any range.
 fn range_to_return(state: &State, random: &mut Random) -> Range {
     let list = random.pick(&[GENERAL_FREE as u64, RESERVED_FREE as u64]) as usize;
-    let Some(run) = some(&held(state, list), random) else {
+    let Some(run) = some(&state.not_free(list), random) else {
         let (start, count) = frames(state, random);
         return Range { start, end: start.wrapping_add(count).wrapping_sub(1) };
     };
@@ -178,6 +173,26 @@ fn range_to_return(state: &State, random: &mut Random) -> Range {
         13 => Range { start: inside, end: run.end + 1 + random.below(3) },
         14 => Range { start: inside + 1, end: random.pick(&[0, inside, TOP + 1]) },
         _ => Range { start: inside, end: random.pick(&[TOP, TOP + 1, u64::MAX]) },
+    }
+}
+
+fn question(state: &State, random: &mut Random) -> Call {
+    match random.below(8) {
+        0 => Call::Total(false),
+        1 => Call::Total(true),
+        2 | 3 => Call::Held(random.pick(&[BUFFER as u64 - 1, BUFFER as u64, 3000]) as usize),
+        _ => Call::Kind(range_to_ask(state, random)),
+    }
+}
+
+/// Frames as a request would name them; now and then the other way round, so that the range is empty.
+fn range_to_ask(state: &State, random: &mut Random) -> Range {
+    let (start, count) = frames(state, random);
+    let end = start.wrapping_add(count).wrapping_sub(1);
+    if random.once_in(16) {
+        Range { start: end, end: start }
+    } else {
+        Range { start, end }
     }
 }
 

@@ -74,7 +74,10 @@ impl Answering {
                 let judgement = Judgement::of(call, &self.state);
                 self.counts.add(call, &self.state, &judgement);
                 self.state = judgement.after;
-                told(&judgement.answer)
+                match call.is_question() && judgement.answer.number == 0 {
+                    true => counted(call, judgement.answer.count, &self.state),
+                    false => told(&judgement.answer),
+                }
             }
             Line::Call(Way::Short, _) => "refused 3".to_string(),
             Line::Call(Way::BrokenSlot, _) => "refused 11".to_string(),
@@ -86,6 +89,16 @@ impl Answering {
             Line::Bad(_) => "(bad)".to_string(),
         }
     }
+}
+
+/// The count, and the runs of a held list.
+fn counted(question: &Call, count: u64, state: &State) -> String {
+    let runs = match question {
+        Call::Held(_) => state.held(),
+        _ => Vec::new(),
+    };
+    let pairs = runs.iter().map(|run| format!(" {} {}", run.start, run.end));
+    format!("counted {count}{}", pairs.collect::<String>())
 }
 
 fn told(answer: &Answer) -> String {

@@ -9,6 +9,7 @@ mod domain;
 mod generate;
 mod judge;
 mod line;
+mod question_rows;
 mod replay;
 mod rows;
 mod small;

@@ -26,7 +26,7 @@ const CALLS: usize = 4;
 const RANDOM_LISTS: usize = 20_000;
 
 /// So many random lists are taken besides.
-const OTHER_LISTS: usize = 40;
+const OTHER_LISTS: usize = 24;
 
 /// A random list ends at so many bytes.
 const MOST_BYTES_OF_ONE: usize = 2_000;
@@ -35,7 +35,7 @@ const MOST_BYTES_OF_ONE: usize = 2_000;
 const MOST_BYTES: usize = 262_144;
 
 /// Lines that are no call. `(bad)` answers each.
-const BAD: [&str; 44] = [
+const BAD: [&str; 54] = [
     "",
     " ",
     "fresh ",
@@ -73,6 +73,16 @@ const BAD: [&str; 44] = [
     "general_at 1",
     "return",
     "return 1",
+    "kind",
+    "kind 1",
+    "kind 1 2 3",
+    "total",
+    "total 1",
+    "total free",
+    "total general ",
+    "total general reserved",
+    "held 1",
+    "held_shorts",
     "short",
     "short ",
     "short lists",
@@ -167,7 +177,7 @@ fn random_lists(seed: u64) -> Vec<Line> {
     lines
 }
 
-/// A random list with the lists after each call that is accepted, and which lines count for what. It
+/// A random list with the lists after each call that is accepted and no question, and which lines count for what. It
 /// ends where it would become too long.
 fn random_list(random: &mut Random) -> (Vec<Line>, Vec<(usize, Seen)>) {
     theirs::empty_lists(false);
@@ -184,10 +194,11 @@ fn random_list(random: &mut Random) -> (Vec<Line>, Vec<(usize, Seen)>) {
         let rows = Row::of(&call, &state, &judgement);
         shown.extend(rows.into_iter().map(|row| (at, Seen::Row(row, sorted))));
         state = judgement.after;
+        let shows = number == 0 && !call.is_question();
         let line = Line::plain(call);
         bytes += line.to_string().len();
         lines.push(line);
-        lines.extend((number == 0).then_some(Line::Lists));
+        lines.extend(shows.then_some(Line::Lists));
         if bytes > MOST_BYTES_OF_ONE {
             break;
         }

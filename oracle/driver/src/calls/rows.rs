@@ -2,6 +2,7 @@
 
 use super::domain::{part_to_grow, MOST_ENTRIES};
 use super::judge::Judgement;
+use super::question_rows::of_question;
 use crate::allocator::call::Call;
 use crate::allocator::state::{
     State, GENERAL_FREE, GENERAL_REGIONS, RESERVED_FREE, RESERVED_REGIONS, SLOTS,
@@ -49,6 +50,21 @@ pub enum Row {
     EighteenGiven,
     NineteenFree,
     NineteenOutside,
+    KindOfNothing,
+    KindOfGeneral,
+    KindOfUnknown,
+    KindOfReserved,
+    KindOfBoth,
+    KindMissed,
+    NoGeneral,
+    SomeGeneral,
+    NoReserved,
+    SomeReserved,
+    HeldNone,
+    HeldOne,
+    HeldSeveral,
+    HeldMany,
+    HeldAcross,
 }
 
 /// In which form a row can occur.
@@ -60,7 +76,7 @@ enum Form {
 }
 
 impl Row {
-    pub const ALL: [Row; 39] = [
+    pub const ALL: [Row; 54] = [
         Row::FromGeneral,
         Row::FromReserved,
         Row::TwoGeneral,
@@ -100,6 +116,21 @@ impl Row {
         Row::EighteenGiven,
         Row::NineteenFree,
         Row::NineteenOutside,
+        Row::KindOfNothing,
+        Row::KindOfGeneral,
+        Row::KindOfUnknown,
+        Row::KindOfReserved,
+        Row::KindOfBoth,
+        Row::KindMissed,
+        Row::NoGeneral,
+        Row::SomeGeneral,
+        Row::NoReserved,
+        Row::SomeReserved,
+        Row::HeldNone,
+        Row::HeldOne,
+        Row::HeldSeveral,
+        Row::HeldMany,
+        Row::HeldAcross,
     ];
 
     pub fn label(self) -> &'static str {
@@ -151,13 +182,32 @@ impl Row {
             Row::EighteenGiven => ("18, a return to a full list", Form::Both),
             Row::NineteenFree => ("19, a frame is free", Form::Both),
             Row::NineteenOutside => ("19, not in regions of one kind", Form::Both),
+            Row::KindOfNothing => ("kind 0, an empty range", Form::Both),
+            Row::KindOfGeneral => ("kind 0, general frames", Form::Both),
+            Row::KindOfUnknown => ("kind 0, frames in no region", Form::Both),
+            Row::KindOfReserved => ("kind 1, reserved frames", Form::Both),
+            Row::KindOfBoth => ("kind 1, frames of both kinds", Form::Both),
+            Row::KindMissed => ("kind 1, where the Rust says 0", Form::Sorted),
+            Row::NoGeneral => ("total 0, general", Form::Both),
+            Row::SomeGeneral => ("total above 0, general", Form::Both),
+            Row::NoReserved => ("total 0, reserved", Form::Both),
+            Row::SomeReserved => ("total above 0, reserved", Form::Both),
+            Row::HeldNone => ("held, no run", Form::Both),
+            Row::HeldOne => ("held, one run", Form::Both),
+            Row::HeldSeveral => ("held, 2 to 32 runs", Form::Both),
+            Row::HeldMany => ("held, more than 32 runs", Form::Both),
+            Row::HeldAcross => ("    a run across regions that touch", Form::Both),
         }
     }
 
     pub fn of(call: &Call, before: &State, judgement: &Judgement) -> Vec<Row> {
         let answer = &judgement.answer;
-        if let Call::Return(range) = *call {
-            return of_return(range, answer.number, before, &judgement.after);
+        match *call {
+            Call::Return(range) => {
+                return of_return(range, answer.number, before, &judgement.after)
+            }
+            _ if call.is_question() => return of_question(call, before, judgement),
+            _ => {}
         }
         let general_only = matches!(call, Call::GeneralAt(..));
         let Some(frames) = call.frames() else {
@@ -246,7 +296,7 @@ fn of_return(range: Range, number: u64, before: &State, after: &State) -> Vec<Ro
     those_seen(&seen)
 }
 
-fn those_seen(rows: &[(Row, bool)]) -> Vec<Row> {
+pub fn those_seen(rows: &[(Row, bool)]) -> Vec<Row> {
     rows.iter().filter(|(_, is_so)| *is_so).map(|(row, _)| *row).collect()
 }
 

@@ -11,8 +11,8 @@ slice-read-last c = search needs
 slice-write-words : tie.Need-slice-write-words
 slice-write-words c = search needs
 
-only-call-requires : tie.Need-only-call-requires
-only-call-requires c κs = search needs
+call-requires : tie.Need-call-requires
+call-requires c κs = search needs
 
 slice-write-words-2 : tie.Need-slice-write-words-2
 slice-write-words-2 c = search needs
@@ -20,7 +20,7 @@ slice-write-words-2 c = search needs
 same-length : tie.Need-same-length
 same-length c =
     let words = c .before .before .before .before .before .before .before .args .words .now in
-    simp length-set (c .before .before .only-call .kept .1 .0 ∙ length-set words 4095 1)
+    simp length-set (c .before .before .call .kept .1 .0 ∙ length-set words 4095 1)
 
 returns : tie.Need-returns
 returns c = search needs
@@ -31,7 +31,7 @@ broken-word-spec =
     (tie.spec
     slice-read-last
     slice-write-words
-    only-call-requires
+    call-requires
     slice-write-words-2
     same-length
     returns)

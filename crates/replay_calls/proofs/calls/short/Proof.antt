@@ -5,14 +5,14 @@ use borrow.Author.Needs.{needs}
 use Rattle.replay_calls.proofs.calls.short.Statement.{statement}
 use Rattle.replay_calls.proofs.calls.short.Tie as tie
 
-slice-relend-prefix-only-call : tie.Need-slice-relend-prefix-only-call
-slice-relend-prefix-only-call c = search needs
+slice-relend-prefix-call : tie.Need-slice-relend-prefix-call
+slice-relend-prefix-call c = search needs
 
-slice-aggregate-only-call : tie.Need-slice-aggregate-only-call
-slice-aggregate-only-call c = simp length-take (omega arith)
+slice-aggregate-call : tie.Need-slice-aggregate-call
+slice-aggregate-call c = simp length-take (omega arith)
 
-only-call-requires : tie.Need-only-call-requires
-only-call-requires c κs = search needs
+call-requires : tie.Need-call-requires
+call-requires c κs = search needs
 
 same-length : tie.Need-same-length
 same-length c = search needs
@@ -24,8 +24,8 @@ pub short-spec : {M : Type 1} → statement M
 short-spec =
     tie.close
     (tie.spec
-    slice-relend-prefix-only-call
-    slice-aggregate-only-call
-    only-call-requires
+    slice-relend-prefix-call
+    slice-aggregate-call
+    call-requires
     same-length
     returns)

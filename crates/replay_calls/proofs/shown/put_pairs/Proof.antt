@@ -1,19 +1,24 @@
--- `put_table` looks at each pair once.
-use Prim.Native.Nat.{_≤_, _-_}
-use mathlib.Core.Path.{_≡_}
+-- `put_pairs` looks at each pair once.
+use Prim.Native.Nat.{_≤_, _-_, _*_}
 use lib.ListN.{length}
 use native.Mathlib.Omega.{arith}
-use Rattle.replay_calls.proofs.shown.put_table.Statement.{statement}
-use Rattle.replay_calls.proofs.shown.put_table.Tie as tie
+use Rattle.replay_calls.proofs.shown.put_pairs.Statement.{statement}
+use Rattle.replay_calls.proofs.shown.put_pairs.Tie as tie
 
 abbrev Inv-loop : tie.InvT-loop
-Inv-loop t len i₀ i = (i ≤ len) × (len ≤ 512) × (length t ≡ 1024)
+Inv-loop t len i₀ i = (i ≤ len) × (len ≤ 1024) × (2 * len ≤ length t)
 
 abbrev μ-loop : tie.MeasureT-loop
 μ-loop t len i₀ i = len - i
 
 returns : tie.Need-returns Inv-loop μ-loop
 returns c = tt
+
+mul-if2 : tie.Need-mul-if2 Inv-loop μ-loop
+mul-if2 c = omega arith
+
+returns-2 : tie.Need-returns-2 Inv-loop μ-loop
+returns-2 c = tt
 
 loop-holds : tie.Need-loop-holds Inv-loop μ-loop
 loop-holds c = omega arith
@@ -51,16 +56,18 @@ loop-less c = omega arith
 loop-again : tie.Need-loop-again Inv-loop μ-loop
 loop-again c = omega arith
 
-returns-2 : tie.Need-returns-2 Inv-loop μ-loop
-returns-2 c = tt
+returns-3 : tie.Need-returns-3 Inv-loop μ-loop
+returns-3 c = tt
 
-pub put-table-spec : {M : Type 1} → statement M
-put-table-spec =
+pub put-pairs-spec : {M : Type 1} → statement M
+put-pairs-spec =
     tie.close
     (tie.spec
     Inv-loop
     μ-loop
     returns
+    mul-if2
+    returns-2
     loop-holds
     mul-put-entry
     mul-put-entry-2
@@ -73,4 +80,4 @@ put-table-spec =
     add-i
     loop-less
     loop-again
-    returns-2)
+    returns-3)
