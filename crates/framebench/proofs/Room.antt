@@ -12,7 +12,6 @@ use Rattle.bench_areas.specs.declared.Collecting.{Collecting}
 use Rattle.bench_areas.specs.declared.Collecting.the-variants.{Taken, Full}
 use Rattle.bench_areas.specs.Areas.{Room, Collects, noAreas}
 use Rattle.bench_lists.specs.ListLines.{lineRoom}
-use Rattle.framebench.specs.declared.Reached.{Reached}
 use Rattle.framebench.specs.declared.answers.Bench.{Bench}
 use Rattle.framebench.specs.Ready.{Ready, ReadyAt}
 use Rattle.framebench.specs.Obeys.{Makes, withRecord}
