@@ -11,7 +11,7 @@ use Rattle.model.specs.declared.Kind.{Kind}
 use Rattle.model.specs.declared.Kind.the-variants.{General, Reserved}
 use Rattle.areas.specs.Areas.{kindOfWord, triples, areasIn}
 use Rattle.bench_areas.specs.declared.AreaCounts.{AreaCounts}
-use Rattle.bench_areas.specs.Areas.{Few, Room, Adds, countOf, oneMore, wordOf, wordsUsed, collected}
+use Rattle.bench_areas.specs.Areas.{Few, Room, Adds, countOf, oneMore, wordOf, wordsUsed}
 
 pub kind-back : (k : Kind) → kindOfWord (wordOf k) ≡ k
 unfolding kindOfWord wordOf

@@ -8,7 +8,7 @@ use lib.ListN.{length, take, drop, length-append, length-take, length-drop}
 use lib.Seq.{take-length, take-all, take-at, take-append-add, length-take-le}
 use lib.Dec.{leb}
 use borrow.Author.Tests.{leb-true, leb-false}
-use borrow.Rule.Slice.PartMut.{midOf, postOf, putMid, same-len-mid}
+use borrow.Rule.Slice.PartMut.{postOf, putMid, same-len-mid}
 use Rattle.bench_lines.specs.Commands.{commandOf}
 use Rattle.bench_lines.specs.Lines.{Holds}
 use Rattle.bench_lines.proofs.Reading.{too-long}

@@ -3,9 +3,9 @@ use native.Mathlib.Omega.{arith}
 use Prim.Native.Nat.{ℕ, _+_, _-_, _≤_, _<_}
 use native.Mathlib.Numerals.{add-one}
 use mathlib.Core.Path.{_≡_, refl, sym, ap, _∙_}
-use mathlib.Core.Bool.{Bool, true, false, cond}
-use mathlib.Core.List.{List, [], _∷_, _++_}
-use lib.ListN.{length, getD, take, drop}
+use mathlib.Core.Bool.{Bool, true, false}
+use mathlib.Core.List.{List, [], _∷_}
+use lib.ListN.{length, take, drop}
 use lib.Seq.{drop-cons, take-length, drop-length}
 use lib.Dec.{eqb}
 use borrow.Author.Tests.{eqb-true, le-leb, lt-leb, lt-ltb, le-ltb}
@@ -15,7 +15,6 @@ use Rattle.lines.specs.declared.Word.{Word}
 use Rattle.lines.specs.declared.Word.the-variants.{Number, Nothing}
 use Rattle.lines.proofs.Words.{first-word, below-digits}
 use Rattle.bench_lines.specs.Commands.{openingText, closingText, withTwo, commandIn, isForm, inside, commandOf}
-use Rattle.bench_lines.specs.declared.Command.{Command}
 use Rattle.bench_lines.specs.declared.Command.the-variants.{Bad}
 
 -- ---- a text with a space is no number

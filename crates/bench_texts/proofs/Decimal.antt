@@ -2,7 +2,7 @@
 use native.Mathlib.Omega.{arith}
 use Prim.Native.Nat.{ℕ, zero, suc, _+_, _-_, _*_, _/_, _%_, _^_, _≤_, _<_}
 use native.Mathlib.Nat.{pow-succ', one-le-pow, pow-le-pow-right, div-add-mod'}
-use mathlib.Core.Path.{_≡_, refl, sym, ap, subst, subst⁻¹, _∙_}
+use mathlib.Core.Path.{_≡_, refl, ap, subst, subst⁻¹, _∙_}
 use mathlib.Core.Bool.{Bool, true, false, cond}
 use mathlib.Core.List.{List, [], _∷_, _++_}
 use lib.ListN.{length, length-append}
@@ -11,7 +11,6 @@ use borrow.Author.Tests.{leb-true, leb-false, lt-ltb, le-ltb, ltb-true, ltb-fals
 use Rattle.memory_structs.specs.declared.range.FrameRange.{FrameRange}
 use Rattle.io.specs.Digits.{glyph, digits, Fewest}
 use Rattle.lines.specs.Words.{decimalOf}
-use Rattle.lines.specs.declared.Word.{Word}
 use Rattle.lines.specs.declared.Word.the-variants.{Number}
 use Rattle.lines.proofs.Meaning.{one-digit, next-digit}
 use Rattle.bench_texts.specs.Texts.{Puts, digitsText, decimalText, rangeText}

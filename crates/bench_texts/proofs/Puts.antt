@@ -2,7 +2,7 @@
 use native.Mathlib.Omega.{arith}
 use Prim.Native.Nat.{ℕ, _+_, _-_, _≤_}
 use mathlib.Core.Path.{_≡_, refl, sym, ap, _∙_}
-use mathlib.Core.List.{List, [], _∷_, _++_, append-nil, append-assoc}
+use mathlib.Core.List.{List, [], _++_, append-nil, append-assoc}
 use lib.ListN.{length, take, drop, length-append, length-take, take-append-drop, drop-of-length-le}
 use lib.Seq.{length-take-le, take-length, take-at, drop-at, drop-drop}
 use borrow.Rule.Slice.PartMut.{postOf, putMid}

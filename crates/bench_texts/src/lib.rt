@@ -1,5 +1,4 @@
 // The texts that `framebench` writes, each put at a place of a lent buffer: document 01, "The bench program".
-ghost use mathlib.Core.Path.{_≡_};
 ghost use Prim.Native.Nat.{_+_, _≤_};
 ghost use lib.ListN.{length};
 ghost use Rattle.bench_texts.specs.Texts.{Puts, decimalText, rangeText, refusalLine, answerLine};

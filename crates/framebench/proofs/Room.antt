@@ -1,18 +1,20 @@
 -- What a line leaves is ready for the next one.
 use native.Mathlib.Omega.{arith}
 use Prim.Native.Nat.{ℕ, _≤_}
-use mathlib.Core.Path.{_≡_, sym, subst}
+use mathlib.Core.Path.{_≡_, sym, ap, subst, _∙_}
 use mathlib.Core.List.{List}
 use lib.ListN.{length}
+use Rattle.model.specs.Calls.{Call, Gives}
 use Rattle.model.specs.declared.Area.{Area}
+use Rattle.model.specs.declared.Called.{Called}
 use Rattle.bench_areas.specs.declared.AreaCounts.{AreaCounts}
 use Rattle.bench_areas.specs.declared.Collecting.{Collecting}
 use Rattle.bench_areas.specs.declared.Collecting.the-variants.{Taken, Full}
 use Rattle.bench_areas.specs.Areas.{Room, Collects, noAreas}
 use Rattle.bench_lists.specs.ListLines.{lineRoom}
-use Rattle.framebench.specs.declared.Reached.{Reached}
 use Rattle.framebench.specs.declared.answers.Bench.{Bench}
 use Rattle.framebench.specs.Ready.{Ready, ReadyAt}
+use Rattle.framebench.specs.Obeys.{Makes, withRecord}
 
 -- before the first line
 pub begins : {b : Bench} {line out areas : List ℕ} → b .counts ≡ noAreas → lineRoom ≤ length out → 384 ≤ length areas →
@@ -43,3 +45,7 @@ ready-on {b} {r} {out} {after} {areas} same size ready = record {
   printing = omega (arith, ready .printing);
   collecting = subst (λ (c : AreaCounts). Room c areas) (sym same) (ready .collecting);
 }
+
+-- after a call, whose record the bench goes on with
+pub makes : {c : Call} {b r : Bench} {words after : List ℕ} {called : Called} → Gives c (b .allocator) words called after → r ≡ withRecord (called .allocator) b → Makes c b words r after
+makes g e = record { records = ap (λ (x : Bench). x .allocator) e ∙ g .records; words-are = g .words; counts = ap (λ (x : Bench). x .counts) e }

@@ -5,7 +5,11 @@ ghost use lib.ListN.{length};
 ghost use Rattle.rules.specs.Check.{Ruled};
 ghost use Rattle.bench_areas.specs.Areas.{Room, noAreas};
 ghost use Rattle.bench_lists.specs.ListLines.{lineRoom};
+ghost use Rattle.model.specs.Calls.{bootCall};
+ghost use Rattle.bench_areas.specs.Areas.{collected};
+ghost use Rattle.bench_lines.specs.Commands.{commandOf};
 ghost use Rattle.framebench.specs.Ready.{Ready};
+ghost use Rattle.framebench.specs.Obeys.{Gathers, Makes, withRecord, Obeys};
 use bench_areas::AreaCounts;
 use bench_areas::Collecting;
 use bench_lines::Command;
@@ -35,6 +39,7 @@ pub fn begin() -> Bench
 pub fn answer(b: Bench, line: &[u8], out: &mut [u8], areas: &mut [u64], words: &mut [u64]) -> Bench
     requires { ⌜ Ready b (now out) (now areas) ⌝ }
     ensures { λ r. ⌜ Ready r (now (out .exit)) (now (areas .exit)) ⌝ }
+    ensures { λ r. ⌜ Obeys (commandOf (now (line .entry))) b (now (areas .entry)) (now (words .entry)) r (now (areas .exit)) (now (words .exit)) ⌝ }
 {
     match bench_lines::read_command(line) {
         Command::Free(start, end) => collect(b, areas, start, end, Kind::General),
@@ -65,6 +70,7 @@ pub fn answer(b: Bench, line: &[u8], out: &mut [u8], areas: &mut [u64], words: &
 fn collect(b: Bench, areas: &mut [u64], start: u64, end: u64, kind: Kind) -> Bench
     requires { ⌜ Room (b .counts) (now areas) ⌝ }
     ensures { λ r. ⌜ Room (r .counts) (now (areas .exit)) ⌝ }
+    ensures { λ r. ⌜ Gathers (record { start = start; end = end; kind = kind }) b (now (areas .entry)) r (now (areas .exit)) ⌝ }
 {
     let allocator = b.allocator;
     match bench_areas::collect(areas, b.counts, Area { start, end, kind }) {
@@ -76,7 +82,7 @@ fn collect(b: Bench, areas: &mut [u64], start: u64, end: u64, kind: Kind) -> Ben
 // "Collected areas stay after a boot".
 fn boot(b: Bench, out: &mut [u8], areas: &[u64], words: &[u64]) -> Bench
     requires { ⌜ Ready b (now out) (now areas) ⌝ }
-    ensures { λ r. ⌜ r .counts ≡ b .counts ⌝ }
+    ensures { λ r. ⌜ Makes (bootCall (collected (b .counts) (now (areas .entry)))) b (now (words .entry)) r (now (words .entry)) ⌝ }
 {
     let used = bench_areas::words_used(b.counts);
     tell(b, out, boot::init(b.allocator, &areas[..used], words))
@@ -85,7 +91,7 @@ fn boot(b: Bench, out: &mut [u8], areas: &[u64], words: &[u64]) -> Bench
 // Prints the answer, and goes on with the record after the call.
 fn tell(b: Bench, out: &mut [u8], called: Called) -> Bench
     requires { ⌜ lineRoom ≤ length (now out) ⌝ }
-    ensures { λ r. ⌜ r .counts ≡ b .counts ⌝ }
+    ensures { λ r. ⌜ r ≡ withRecord (called .allocator) b ⌝ }
 {
     let len = bench_texts::write_answer(out, called.answer);
     print(&out[..len]);
@@ -97,7 +103,7 @@ fn tell(b: Bench, out: &mut [u8], called: Called) -> Bench
 // Only a record that keeps the rules has lists to print; the others are refused as by any call.
 fn list(b: Bench, out: &mut [u8], words: &[u64]) -> Bench
     requires { ⌜ lineRoom ≤ length (now out) ⌝ }
-    ensures { λ r. ⌜ r .counts ≡ b .counts ⌝ }
+    ensures { λ r. ⌜ r ≡ b ⌝ }
 {
     let a = b.allocator;
     let number = rules::check(a, words);
@@ -120,7 +126,7 @@ fn print_list(out: &mut [u8], a: FrameAllocator, words: &[u64], which: WhichList
 }
 
 fn bad(b: Bench) -> Bench
-    ensures { λ r. ⌜ r .counts ≡ b .counts ⌝ }
+    ensures { λ r. ⌜ r ≡ b ⌝ }
 {
     print(b"(bad)\n");
     b

@@ -60,7 +60,7 @@ loop-again : tie.Need-loop-again Inv-loop μ-loop
 loop-again c =
     let n = c .before .before .before .before .before .before .before in
     let v = n .before .before .before .before .before .before .before .before .before .before .before .loop .inv in
-    (omega (arith, c .find2 .ensures), c .find2 .ensures .1, omega arith, omega (arith, v .3), omega (arith, v .4), omega (arith, v .5), omega (arith, v .6), n .answer .ensures)
+    (omega (arith, c .find2 .ensures), c .find2 .ensures .1, omega arith, omega (arith, v .3), omega (arith, v .4), omega (arith, v .5), omega (arith, v .6), n .answer .ensures .0)
 
 sub-hold-2 : tie.Need-sub-hold-2 Inv-loop μ-loop
 sub-hold-2 c = omega arith

@@ -1,5 +1,4 @@
 -- `run`: the turns fall, and the bench is ready after each.
-use Prim.Native.Nat.{_≤_}
 use mathlib.Core.Path.{_≡_, refl, ap}
 use mathlib.Core.Logic.{⊎-elim}
 use lib.ListN.{length, length-take}

@@ -1,6 +1,11 @@
--- `answers::answer`: each line leaves the bench ready for the next.
+-- `answers::answer`: each command does what it says, and leaves the bench ready for the next.
 use native.Mathlib.Omega.{arith}
-use Rattle.framebench.proofs.Room.{ready-on}
+use mathlib.Core.Path.{refl, sym, ap, subst, _∙_}
+use Rattle.memory_structs.specs.declared.range.FrameRange.{FrameRange}
+use Rattle.model.specs.Calls.{returnCall, Gives}
+use Rattle.framebench.specs.declared.answers.Bench.{Bench}
+use Rattle.framebench.specs.Obeys.{Obeys}
+use Rattle.framebench.proofs.Room.{ready-on, makes}
 use borrow.Author.Needs.{needs}
 use Rattle.framebench.proofs.answers.answer.Statement.{statement}
 use Rattle.framebench.proofs.answers.answer.Tie as tie
@@ -82,13 +87,29 @@ same-length : tie.Need-same-length
 same-length c = search needs
 
 returns : tie.Need-returns
-returns c = search needs
+unfolding Obeys
+returns c =
+    let p = c .before .before in
+    let e = p .before .before .before in
+    let m = e .before .before in
+    let s = m .before .before .before .before .before in (
+      record { printing = s .pre .printing; collecting = p .collect .ensures .0 },
+      rw (sym (m .read-command .ensures) ∙ e .start .given .1) (p .collect .ensures .1, refl),
+    )
 
 same-length-2 : tie.Need-same-length-2
 same-length-2 c = search needs
 
 returns-2 : tie.Need-returns-2
-returns-2 c = search needs
+unfolding Obeys
+returns-2 c =
+    let p = c .before .before in
+    let e = p .before .before .before in
+    let m = e .before .before in
+    let s = m .before .before .before .before .before in (
+      record { printing = s .pre .printing; collecting = p .collect2 .ensures .0 },
+      rw (sym (m .read-command .ensures) ∙ e .start2 .given .1) (p .collect2 .ensures .1, refl),
+    )
 
 same-length-3 : tie.Need-same-length-3
 same-length-3 c = search needs
@@ -100,8 +121,13 @@ same-length-5 : tie.Need-same-length-5
 same-length-5 c = search needs
 
 returns-3 : tie.Need-returns-3
+unfolding Obeys
 returns-3 c =
-    ready-on (c .before .before .boot .ensures) (omega arith) (c .before .before .before .before .before .before .before .before .before .before .before .before .before .pre)
+    let p = c .before .before in
+    let e = p .before .before .before .before in
+    let m = e .before .before in
+    let s = m .before .before .before .before .before in
+    (ready-on (p .boot .ensures .counts) (omega arith) (s .pre), rw (sym (m .read-command .ensures) ∙ e .enum-told .given .1) (p .boot .ensures, refl))
 
 same-length-6 : tie.Need-same-length-6
 same-length-6 c = search needs
@@ -110,8 +136,14 @@ same-length-7 : tie.Need-same-length-7
 same-length-7 c = search needs
 
 returns-4 : tie.Need-returns-4
+unfolding Obeys
 returns-4 c =
-    ready-on (c .before .before .tell .ensures) (omega arith) (c .before .before .before .before .before .before .before .before .before .before .before .before .before .before .before .pre)
+    let t = c .before .before in
+    let e = t .before .before .before .before .before .before in
+    let m = e .before .before in
+    let s = m .before .before .before .before .before in
+    let made = makes (t .before .before .before .convert-frame-allocator-to-heap-based .ensures) (t .tell .ensures) in
+    (ready-on (made .counts) (omega arith) (s .pre), rw (sym (m .read-command .ensures) ∙ e .enum-told2 .given .1) (made, refl))
 
 same-length-8 : tie.Need-same-length-8
 same-length-8 c = search needs
@@ -120,8 +152,14 @@ same-length-9 : tie.Need-same-length-9
 same-length-9 c = search needs
 
 returns-5 : tie.Need-returns-5
+unfolding Obeys
 returns-5 c =
-    ready-on (c .before .before .tell2 .ensures) (omega arith) (c .before .before .before .before .before .before .before .before .before .before .before .before .before .before .before .before .pre)
+    let t = c .before .before in
+    let e = t .before .before .before .before .before .before .before in
+    let m = e .before .before in
+    let s = m .before .before .before .before .before in
+    let made = makes (t .before .before .before .allocate-frames .ensures) (t .tell2 .ensures) in
+    (ready-on (made .counts) (omega arith) (s .pre), rw (sym (m .read-command .ensures) ∙ e .n .given .1) (made, refl))
 
 same-length-10 : tie.Need-same-length-10
 same-length-10 c = search needs
@@ -130,8 +168,14 @@ same-length-11 : tie.Need-same-length-11
 same-length-11 c = search needs
 
 returns-6 : tie.Need-returns-6
+unfolding Obeys
 returns-6 c =
-    ready-on (c .before .before .tell3 .ensures) (omega arith) (c .before .before .before .before .before .before .before .before .before .before .before .before .before .before .before .before .pre)
+    let t = c .before .before in
+    let e = t .before .before .before .before .before .before .before in
+    let m = e .before .before in
+    let s = m .before .before .before .before .before in
+    let made = makes (t .before .before .before .allocate-frames-at .ensures) (t .tell3 .ensures) in
+    (ready-on (made .counts) (omega arith) (s .pre), rw (sym (m .read-command .ensures) ∙ e .frame .given .1) (made, refl))
 
 same-length-12 : tie.Need-same-length-12
 same-length-12 c = search needs
@@ -140,8 +184,15 @@ same-length-13 : tie.Need-same-length-13
 same-length-13 c = search needs
 
 returns-7 : tie.Need-returns-7
+unfolding Obeys
 returns-7 c =
-    ready-on (c .before .before .tell4 .ensures) (omega arith) (c .before .before .before .before .before .before .before .before .before .before .before .before .before .before .before .before .before .pre)
+    let t = c .before .before in
+    let e = t .before .before .before .before .before .before .before .before in
+    let m = e .before .before in
+    let s = m .before .before .before .before .before in
+    let g = t .before .before .before in
+    let made = makes (subst (λ (x : FrameRange). Gives (returnCall x) (s .args .b .allocator) (s .args .words .now) (g .return-frames .result) (g .return-frames .last .1 .0)) (g .before .new .ensures) (g .return-frames .ensures)) (t .tell4 .ensures) in
+    (ready-on (made .counts) (omega arith) (s .pre), rw (sym (m .read-command .ensures) ∙ e .start3 .given .1) (made, refl))
 
 same-length-14 : tie.Need-same-length-14
 same-length-14 c = search needs
@@ -150,12 +201,26 @@ same-length-15 : tie.Need-same-length-15
 same-length-15 c = search needs
 
 returns-8 : tie.Need-returns-8
+unfolding Obeys
 returns-8 c =
-    ready-on (c .before .before .list .ensures) (omega arith) (c .before .before .before .before .before .before .before .before .before .before .before .before .pre)
+    let p = c .before .before in
+    let e = p .before .before .before in
+    let m = e .before .before in
+    let s = m .before .before .before .before .before in (
+      ready-on (ap (λ (x : Bench). x .counts) (p .list .ensures)) (omega arith) (s .pre),
+      rw (sym (m .read-command .ensures) ∙ e .enum-told3 .given .1) (p .list .ensures, refl, refl),
+    )
 
 returns-9 : tie.Need-returns-9
+unfolding Obeys
 returns-9 c =
-    ready-on (c .bad .ensures) (omega arith) (c .before .before .before .before .before .before .before .before .pre)
+    let p = c in
+    let e = p .before in
+    let m = e .before .before in
+    let s = m .before .before .before .before .before in (
+      ready-on (ap (λ (x : Bench). x .counts) (p .bad .ensures)) (omega arith) (s .pre),
+      rw (sym (m .read-command .ensures) ∙ e .enum-told4 .given .1) (p .bad .ensures, refl, refl),
+    )
 
 pub answer-spec : {M : Type 1} → statement M
 answer-spec =

@@ -1,5 +1,10 @@
 -- `answers::boot` lends the words of the areas.
-use lib.ListN.{length-take}
+use Prim.Native.Nat.{ℕ}
+use mathlib.Core.Path.{subst}
+use lib.ListN.{take, length-take}
+use Rattle.model.specs.Calls.{bootCall, Gives}
+use Rattle.areas.specs.Areas.{areasIn}
+use Rattle.framebench.proofs.Room.{makes}
 use native.Mathlib.Omega.{arith}
 use borrow.Author.Needs.{needs}
 use Rattle.framebench.proofs.answers.boot.Statement.{statement}
@@ -24,7 +29,12 @@ same-length : tie.Need-same-length
 same-length c = search needs
 
 returns : tie.Need-returns
-returns c = search needs
+returns c =
+    let t = c .before .before in
+    let i = t .before in
+    let u = i .before .before .before in
+    let a = u .before .before .before .before .args in
+    makes (subst (λ (n : ℕ). Gives (bootCall (areasIn (take n (a .areas .now)))) (a .b .allocator) (a .words .now) (i .init .result) (a .words .now)) (u .words-used .ensures) (i .init .ensures)) (t .tell .ensures)
 
 pub boot-spec : {M : Type 1} → statement M
 boot-spec =

@@ -1,7 +1,9 @@
 -- `answers::list`: a record that keeps the rules has its lists printed.
 use native.Mathlib.Omega.{arith}
-use mathlib.Core.Path.{sym, _∙_}
+use mathlib.Core.Path.{refl, sym, ap, _∙_}
+use Rattle.model.specs.declared.Called.{Called}
 use Rattle.rules.proofs.Numbers.{checked-ruled}
+use Rattle.framebench.specs.Obeys.{withRecord}
 use borrow.Author.Needs.{needs}
 use Rattle.framebench.proofs.answers.list.Statement.{statement}
 use Rattle.framebench.proofs.answers.list.Tie as tie
@@ -19,7 +21,10 @@ same-length : tie.Need-same-length
 same-length c = search needs
 
 returns : tie.Need-returns
-returns c = search needs
+returns c =
+    let t = c .before .before in
+    let a = t .before .before .before .before .before .before .before .before .args in
+    t .tell .ensures ∙ ap (λ (x : Called). withRecord (x .allocator) (a .b)) (t .before .refused .ensures)
 
 print-list-requires : tie.Need-print-list-requires
 print-list-requires c κs =
@@ -45,7 +50,7 @@ same-length-2 : tie.Need-same-length-2
 same-length-2 c = search needs
 
 returns-2 : tie.Need-returns-2
-returns-2 c = search needs
+returns-2 c = refl
 
 pub list-spec : {M : Type 1} → statement M
 list-spec =
