@@ -1,12 +1,16 @@
 -- Calls as words, three to a call: what the call is, and two numbers. The words in quotes are document 01's.
 use Prim.Native.Nat.{ℕ, _+_, _*_}
-use mathlib.Core.Bool.{Bool}
+use mathlib.Core.Path.{_≡_}
+use mathlib.Core.Bool.{Bool, true}
 use mathlib.Core.List.{List}
 use lib.ListN.{take, drop}
 use lib.Dec.{leb, eqb}
 use Rattle.memory_structs.specs.Choice.{if_then_else_}
 use Rattle.memory_structs.specs.Range.{range}
 use Rattle.model.specs.Calls.{Call, bootCall, bootBytesCall, sortCall, returnCall, kindCall, totalCall, heldCall}
+use Rattle.model.specs.declared.Answer.{Answer}
+use Rattle.model.specs.declared.Called.{Called}
+use Rattle.model.specs.declared.FrameAllocator.{FrameAllocator}
 use Rattle.areas.specs.Areas.{kindOfWord, areasIn, byteAreasIn}
 use Rattle.requests.specs.Asked as asked
 use Rattle.requests.specs.declared.Request.the-variants.{Frames, Bytes, FramesAt, BytesAt, GeneralFramesAt}
@@ -55,3 +59,18 @@ callOf areas buffer (Return r) = returnCall r
 callOf areas buffer (KindOf r) = kindCall r
 callOf areas buffer (FreeTotal k) = totalCall k
 callOf areas buffer HeldList = heldCall buffer
+
+-- a boot's areas are all in the list of n words; no other call has any
+unfoldable pub InList : ℕ → Command → Type 0
+InList n (Boot first count) = listed n first count ≡ true
+InList n (BootBytes first count) = listed n first count ≡ true
+InList n Sort = Unit {0}
+InList n (Allocate r) = Unit {0}
+InList n (Return r) = Unit {0}
+InList n (KindOf r) = Unit {0}
+InList n (FreeTotal k) = Unit {0}
+InList n HeldList = Unit {0}
+
+-- a question's answer, beside the record as it was
+abbrev pub answeredWith : Answer → FrameAllocator → Called
+answeredWith x a = record { answer = x; allocator = a }
