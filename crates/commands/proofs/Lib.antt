@@ -1,2 +1,3 @@
 pub mod Decoding
+pub mod Lasting
 pub mod Making
