@@ -47,7 +47,7 @@ bytes-unit u x y k kind e p = rw (e, p) refl
 
 -- the three words from i on, and those after them
 module _ {A : Type 0} (f : ℕ → ℕ → ℕ → A) where
-  next-three : (ws : List ℕ) (i : ℕ) → i + 3 ≤ length ws →
+  pub next-three : (ws : List ℕ) (i : ℕ) → i + 3 ≤ length ws →
       triples f (drop i ws) ≡ f (getD ws i 0) (getD ws (suc i) 0) (getD ws (suc (suc i)) 0) ∷ triples f (drop (suc (suc (suc i))) ws)
   unfolding triples
   next-three [] i h = absurd (omega arith)
@@ -57,7 +57,7 @@ module _ {A : Type 0} (f : ℕ → ℕ → ℕ → A) where
   next-three (x ∷ ws) (suc i) h = next-three ws i (omega arith)
 
   -- fewer than three words are nothing
-  none-left : (ws : List ℕ) (i : ℕ) → length ws < i + 3 → triples f (drop i ws) ≡ []
+  pub none-left : (ws : List ℕ) (i : ℕ) → length ws < i + 3 → triples f (drop i ws) ≡ []
   unfolding triples
   none-left [] zero h = refl
   none-left [] (suc i) h = refl

@@ -1,0 +1,180 @@
+// One call as three words, read and made: what the call is, and two numbers (docs/RUN.md). A list of them is run by `run`.
+ghost use mathlib.Core.Path.{_≡_};
+ghost use mathlib.Core.Bool.{true};
+ghost use mathlib.Core.List.{List};
+ghost use Prim.Native.Nat.{ℕ};
+ghost use lib.ListN.{length};
+ghost use Rattle.model.specs.Calls.{bootCall, bootBytesCall, Gives};
+ghost use Rattle.rules.specs.Check.{checked};
+ghost use Rattle.areas.specs.Areas.{areasIn, byteAreasIn};
+ghost use Rattle.commands.specs.Commands as spec;
+ghost use Rattle.commands.specs.Commands.{InList, areasAt, callOf};
+ghost use Rattle.commands.specs.Made.{numberFor, Goes, Made};
+use memory_structs::FrameRange;
+use model::Answer;
+use model::Called;
+use model::FrameAllocator;
+use model::Kind;
+use requests::Request;
+
+// A call that can be made: every call of the mission's demand 3.
+pub enum Command {
+    // So many areas of the lent list, from this one on.
+    Boot(usize, usize),
+    BootBytes(usize, usize),
+    Sort,
+    Allocate(Request),
+    Return(FrameRange),
+    KindOf(FrameRange),
+    FreeTotal(Kind),
+    HeldList,
+}
+
+// What three words are.
+pub enum Decoded {
+    Make(Command),
+    Damaged,
+}
+
+// Words that the call doesn't use are not looked at.
+pub fn decode(areas_len: usize, what: u64, x: u64, y: u64) -> Decoded
+    ensures { λ r. ⌜ r ≡ spec.decoded «areas_len» what x y ⌝ }
+{
+    match what {
+        0 => decode_boot(areas_len, x, y),
+        1 => decode_byte_boot(areas_len, x, y),
+        2 => Decoded::Make(Command::Sort),
+        3 => Decoded::Make(Command::Allocate(Request::Frames(x))),
+        4 => Decoded::Make(Command::Allocate(Request::Bytes(x))),
+        5 => Decoded::Make(Command::Allocate(Request::FramesAt(x, y))),
+        6 => Decoded::Make(Command::Allocate(Request::BytesAt(x, y))),
+        7 => Decoded::Make(Command::Allocate(Request::GeneralFramesAt(x, y))),
+        8 => Decoded::Make(Command::Return(FrameRange::new(x, y))),
+        9 => Decoded::Make(Command::KindOf(FrameRange::new(x, y))),
+        10 => Decoded::Make(Command::FreeTotal(areas::kind_of(x))),
+        11 => Decoded::Make(Command::HeldList),
+        _ => Decoded::Damaged,
+    }
+}
+
+// A boot whose areas are not all in the list is damaged.
+fn decode_boot(areas_len: usize, first: u64, count: u64) -> Decoded
+    ensures { λ r. ⌜ r ≡ spec.decodedBoot «areas_len» first count ⌝ }
+{
+    if are_listed(areas_len, first, count) {
+        return Decoded::Make(Command::Boot(first as usize, count as usize));
+    }
+    Decoded::Damaged
+}
+
+fn decode_byte_boot(areas_len: usize, first: u64, count: u64) -> Decoded
+    ensures { λ r. ⌜ r ≡ spec.decodedByteBoot «areas_len» first count ⌝ }
+{
+    if are_listed(areas_len, first, count) {
+        return Decoded::Make(Command::BootBytes(first as usize, count as usize));
+    }
+    Decoded::Damaged
+}
+
+// Whether so many areas from this one on stand in a list of so many words. The sum of the two numbers may be above what a word holds.
+fn are_listed(areas_len: usize, first: u64, count: u64) -> bool
+    ensures { λ r. ⌜ r ≡ spec.listed «areas_len» first count ⌝ }
+{
+    let areas = (areas_len / 3) as u64;
+    if first <= areas {
+        return count <= areas - first;
+    }
+    false
+}
+
+// Makes the call. The number is the test's, made before; where it is 0 the call goes on without a test, and keeps the rules
+// (`test-lasts`, proofs/Lasting).
+pub fn make_call(
+    a: FrameAllocator,
+    words: &mut [u64],
+    number: u64,
+    command: Command,
+    areas: &[u64],
+    held: &mut [u64],
+) -> Called
+    requires { ⌜ number ≡ checked a (now words) ⌝ }
+    requires { ⌜ InList (length (now areas)) command ⌝ }
+    ensures { λ r. ⌜ Made (callOf (now (areas .entry)) (length (now (held .entry))) command) a (now (words .entry)) (now (held .entry)) r (now (words .exit)) (now (held .exit)) ⌝ }
+{
+    let number = number_for(command, number, held.len());
+    if number != 0 {
+        return rules::refused(a, number);
+    }
+    go_on(a, words, command, areas, held)
+}
+
+// On a record that keeps the rules, and with a buffer that is long enough.
+fn go_on(
+    a: FrameAllocator,
+    words: &mut [u64],
+    command: Command,
+    areas: &[u64],
+    held: &mut [u64],
+) -> Called
+    requires { ⌜ Goes (callOf (now areas) (length (now held)) command) a (now words) ⌝ }
+    requires { ⌜ InList (length (now areas)) command ⌝ }
+    ensures { λ r. ⌜ Made (callOf (now (areas .entry)) (length (now (held .entry))) command) a (now (words .entry)) (now (held .entry)) r (now (words .exit)) (now (held .exit)) ⌝ }
+{
+    match command {
+        Command::Boot(first, count) => boot_frames(a, words, areas, first, count),
+        Command::BootBytes(first, count) => boot_bytes(a, words, areas, first, count),
+        Command::Sort => sort::convert_frame_allocator_to_heap_based(a, words),
+        Command::Allocate(request) => requests::meet_request(a, words, request),
+        Command::Return(range) => returns::give_back(a, words, range),
+        Command::KindOf(range) => answered(a, lookups::kind(a, words, range)),
+        Command::FreeTotal(kind) => answered(a, lookups::free_total(a, words, kind)),
+        Command::HeldList => answered(a, held_list::held_list(a, words, held)),
+    }
+}
+
+// The test's number, or 3 for a held list whose buffer is too short: 3 comes before 11.
+fn number_for(command: Command, number: u64, buffer_len: usize) -> u64
+    ensures { λ r. ⌜ ((areas : List ℕ) → r ≡ numberFor (callOf areas «buffer_len» command) number) ⌝ }
+{
+    let Command::HeldList = command else {
+        return number;
+    };
+    if buffer_len < 2048 {
+        return 3;
+    }
+    number
+}
+
+fn boot_frames(
+    a: FrameAllocator,
+    words: &[u64],
+    areas: &[u64],
+    first: usize,
+    count: usize,
+) -> Called
+    requires { ⌜ spec.listed (length (now areas)) first count ≡ true ⌝ }
+    ensures { λ r. ⌜ Gives (bootCall (areasIn (areasAt first count (now (areas .entry))))) a (now (words .entry)) r (now (words .entry)) ⌝ }
+{
+    let from = 3 * first;
+    let to = from + 3 * count;
+    boot::init(a, &areas[from..to], words)
+}
+
+fn boot_bytes(a: FrameAllocator, words: &[u64], areas: &[u64], first: usize, count: usize) -> Called
+    requires { ⌜ spec.listed (length (now areas)) first count ≡ true ⌝ }
+    ensures { λ r. ⌜ Gives (bootBytesCall (byteAreasIn (areasAt first count (now (areas .entry))))) a (now (words .entry)) r (now (words .entry)) ⌝ }
+{
+    let from = 3 * first;
+    let to = from + 3 * count;
+    boot::init_from_bytes(a, &areas[from..to], words)
+}
+
+// A question leaves the record as it was.
+fn answered(a: FrameAllocator, answer: Answer) -> Called
+    ensures { λ r. ⌜ r ≡ spec.answeredWith answer a ⌝ }
+{
+    Called {
+        answer,
+        allocator: a,
+    }
+}

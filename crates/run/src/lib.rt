@@ -1,0 +1,80 @@
+// A list of calls of any length, run from a record and its workspace: docs/RUN.md. The rules are tested once; what the calls give is what
+// they give where each is tested by itself (`test-lasts`, commands/proofs/Lasting).
+ghost use mathlib.Core.Path.{_≡_};
+ghost use mathlib.Core.List.{_++_};
+ghost use Prim.Native.Nat.{_+_, _≤_};
+ghost use lib.ListN.{length, take, drop};
+ghost use Rattle.run.specs.Runs.{answerWords, Runs};
+use commands::Decoded;
+use model::Answer;
+use model::FrameAllocator;
+
+// Why a run ended.
+pub enum RunEnd {
+    Done,
+    // At the next call's words, which are no call.
+    Damaged,
+    // The answers' buffer has no five words more.
+    NoRoom,
+}
+
+// What a run hands back: the record, how many calls were made, and why it ended.
+pub struct Ran {
+    pub allocator: FrameAllocator,
+    pub made: usize,
+    pub end: RunEnd,
+}
+
+// Each call gets record and workspace as the call before left them. Its answer goes to the next five words of the buffer.
+pub fn run(
+    a: FrameAllocator,
+    words: &mut [u64],
+    calls: &[u64],
+    areas: &[u64],
+    answers: &mut [u64],
+    held: &mut [u64],
+) -> Ran
+    ensures { λ r. ⌜ Runs (now (areas .entry)) (now (calls .entry)) a (now (words .entry)) (now (answers .entry)) (now (held .entry)) r (now (words .exit)) (now (answers .exit)) (now (held .exit)) ⌝ }
+{
+    let number = rules::check(a, words);
+    let mut allocator = a;
+    let mut made = 0;
+    while 3 <= calls.len() - 3 * made {
+        let i = 3 * made;
+        let decoded = commands::decode(areas.len(), calls[i], calls[i + 1], calls[i + 2]);
+        let Decoded::Make(command) = decoded else {
+            return ended(allocator, made, RunEnd::Damaged);
+        };
+        let at = 5 * made;
+        if answers.len() - at < 5 {
+            return ended(allocator, made, RunEnd::NoRoom);
+        }
+        let called = commands::make_call(allocator, words, number, command, areas, held);
+        write_answer(answers, at, called.answer);
+        allocator = called.allocator;
+        made += 1;
+    }
+    ended(allocator, made, RunEnd::Done)
+}
+
+fn ended(allocator: FrameAllocator, made: usize, end: RunEnd) -> Ran
+    ensures { λ r. ⌜ (r .allocator ≡ allocator) × (r .made ≡ made) × (r .end ≡ end) ⌝ }
+{
+    Ran {
+        allocator,
+        made,
+        end,
+    }
+}
+
+// An answer in five words: number, start, end, frame, count.
+fn write_answer(answers: &mut [u64], at: usize, x: Answer)
+    requires { ⌜ at + 5 ≤ length (now answers) ⌝ }
+    ensures { λ r. ⌜ now (answers .exit) ≡ take at (now (answers .entry)) ++ answerWords x ++ drop (at + 5) (now (answers .entry)) ⌝ }
+{
+    answers[at] = x.number;
+    answers[at + 1] = x.range.start;
+    answers[at + 2] = x.range.end;
+    answers[at + 3] = x.frame;
+    answers[at + 4] = x.count;
+}
