@@ -1,6 +1,8 @@
 // What a line asks for: `main` of replay_calls lists the lines. A word is known by its place among some words; a plain number keeps the
 // proofs of what handles it small, where an enum with values is spelt out at each step.
 ghost use Prim.Native.Nat.{_≤_};
+ghost use mathlib.Core.Path.{_≡_};
+ghost use lib.ListN.{length};
 use lines::Layout;
 use lines::Reading;
 
@@ -47,6 +49,13 @@ pub const RETURN: usize = 14;
 pub const KIND: usize = 15;
 
 pub const NOTHING: usize = 16;
+
+// Room for the text. Only its length is known, so that no proof spells the bytes out.
+pub fn text_buffer() -> [u8; 262144]
+    ensures { λ r. ⌜ 262144 ≡ length r ⌝ }
+{
+    [0; 262144]
+}
 
 // The way that the line's first word names; a line that begins with its call is plain.
 pub fn way_of(word: &[u8]) -> usize {

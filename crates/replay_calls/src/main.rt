@@ -35,7 +35,7 @@ use model::FrameAllocator;
 
 // Reads up to 262,144 bytes of text.
 fn main() {
-    let mut text = [0; 262144];
+    let mut text = reading::text_buffer();
     let n = io::read_full(0, &mut text);
     // Room for 40 areas, so that 33 reserved ones or 33 pieces fit.
     let mut numbers = [0; 120];
