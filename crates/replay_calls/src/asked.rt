@@ -1,7 +1,7 @@
 // The calls of the allocator, by what a line asks for: each writes its answer, and hands back the record after it.
-use call_lines::reading;
-use call_lines::shown;
-use call_lines::written;
+use crate::reading;
+use crate::shown;
+use crate::written;
 use memory_structs::FrameRange;
 use model::Answer;
 use model::Called;

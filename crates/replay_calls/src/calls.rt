@@ -2,10 +2,10 @@
 ghost use Prim.Native.Nat.{_≤_};
 ghost use lib.ListN.{length};
 use crate::asked;
-use call_lines::broken;
-use call_lines::reading;
-use call_lines::shown;
-use call_lines::written;
+use crate::broken;
+use crate::reading;
+use crate::shown;
+use crate::written;
 use model::FrameAllocator;
 
 pub fn answer(

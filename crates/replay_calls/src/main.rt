@@ -26,11 +26,14 @@
 // A line of standard output is what the call answers, `done`, `granted` and the range, `counted` and the count, after which the held list
 // has its runs, or `refused` and the number; the form and the four lists; or `(bad)`. The file `stdout` holds what document 01 and the Rust answer; oracle/README.md says how it was made.
 mod asked;
+mod broken;
 mod calls;
+mod reading;
+mod shown;
+mod written;
 
 ghost use Prim.Native.Nat.{_≤_};
 ghost use lib.ListN.{length};
-use call_lines::reading;
 use model::FrameAllocator;
 
 // Reads up to 262,144 bytes of text.

@@ -1,8 +1,8 @@
 -- `put_slots` looks at each slot once.
 use Prim.Native.Nat.{_≤_, _-_}
 use native.Mathlib.Omega.{arith}
-use Rattle.call_lines.proofs.shown.put_slots.Statement.{statement}
-use Rattle.call_lines.proofs.shown.put_slots.Tie as tie
+use Rattle.replay_calls.proofs.shown.put_slots.Statement.{statement}
+use Rattle.replay_calls.proofs.shown.put_slots.Tie as tie
 
 abbrev Inv-loop : tie.InvT-loop
 Inv-loop l gap₀ i₀ gap i = i ≤ 32

@@ -2,8 +2,8 @@
 use Prim.Native.Nat.{_≤_, _-_, _*_}
 use lib.ListN.{length}
 use native.Mathlib.Omega.{arith}
-use Rattle.call_lines.proofs.shown.put_pairs.Statement.{statement}
-use Rattle.call_lines.proofs.shown.put_pairs.Tie as tie
+use Rattle.replay_calls.proofs.shown.put_pairs.Statement.{statement}
+use Rattle.replay_calls.proofs.shown.put_pairs.Tie as tie
 
 abbrev Inv-loop : tie.InvT-loop
 Inv-loop t len i₀ i = (i ≤ len) × (len ≤ 1024) × (2 * len ≤ length t)

@@ -2,8 +2,8 @@
 use Prim.Native.Nat.{_+_, _≤_, _<_, _-_, _^_}
 use lib.ListN.{length}
 use native.Mathlib.Omega.{arith}
-use Rattle.call_lines.proofs.reading.place_of.Statement.{statement}
-use Rattle.call_lines.proofs.reading.place_of.Tie as tie
+use Rattle.replay_calls.proofs.reading.place_of.Statement.{statement}
+use Rattle.replay_calls.proofs.reading.place_of.Tie as tie
 
 abbrev Inv-loop : tie.InvT-loop
 Inv-loop word words place₀ at₀ place at = (place ≤ at) × (at ≤ length words + 1) × (length words < 2 ^ 63)

@@ -1,5 +1,5 @@
-// What a line asks for: `main` of replay_calls lists the lines. A word is known by its place among some words; a plain number keeps the
-// proofs of what handles it small, where an enum with values is spelt out at each step.
+// What a line asks for: see `main`. A word is known by its place among some words; a plain number keeps the proofs of what handles it
+// small, where an enum with values is spelt out at each step.
 ghost use Prim.Native.Nat.{_≤_};
 ghost use mathlib.Core.Path.{_≡_};
 ghost use lib.ListN.{length};
