@@ -2,18 +2,9 @@
 
 mod record;
 
-use record::{FrameAllocator, SLOTS, UNUSED, WORDS};
+use record::{Called, FrameAllocator, SLOTS, UNUSED, WORDS};
 use std::hint::black_box;
 use std::time::Instant;
-
-#[repr(C)]
-struct Called {
-    number: u64,
-    range: [u64; 2],
-    frame: u64,
-    count: u64,
-    allocator: FrameAllocator,
-}
 
 extern "C" {
     fn likhmout_boot(

@@ -21,4 +21,16 @@ pub struct FrameAllocator {
     pub lens: [usize; 4],
 }
 
+/// What a call that changes the record hands back.
+#[allow(dead_code)] // `check` makes no such call.
+#[repr(C)]
+#[derive(Clone, Copy)]
+pub struct Called {
+    pub number: u64,
+    pub range: [u64; 2],
+    pub frame: u64,
+    pub count: u64,
+    pub allocator: FrameAllocator,
+}
+
 pub const UNUSED: EarlyList = EarlyList { starts: [1; SLOTS], ends: [0; SLOTS], used: [false; SLOTS] };

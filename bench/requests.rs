@@ -2,19 +2,9 @@
 
 mod record;
 
-use record::{FrameAllocator, PAIRS, PART, UNUSED, WORDS};
+use record::{Called, FrameAllocator, PAIRS, PART, UNUSED, WORDS};
 use std::hint::black_box;
 use std::time::Instant;
-
-#[repr(C)]
-#[derive(Clone, Copy)]
-struct Called {
-    number: u64,
-    range: [u64; 2],
-    frame: u64,
-    count: u64,
-    allocator: FrameAllocator,
-}
 
 extern "C" {
     fn likhmout_check(a: FrameAllocator, words: *const u64, len: usize) -> u64;

@@ -6,6 +6,7 @@ mod calls;
 mod frames;
 mod random;
 mod ranges;
+mod verdict;
 
 use std::path::Path;
 use std::process::ExitCode;

@@ -11,6 +11,7 @@ use crate::allocator::record::{Answer, Called, FrameAllocator, Stored, UNREAD};
 use crate::allocator::state::{Lists, State};
 use crate::allocator::{numbers, ours, theirs};
 use crate::random::Random;
+use crate::verdict;
 use std::fmt::{self, Display};
 
 /// So many differences are printed in full; the others are only counted.
@@ -45,10 +46,7 @@ pub fn compare(random_boots: u64, seed: u64) -> bool {
     theirs::empty_lists(false);
 
     comparison.counts.print();
-    println!("differences: {}", comparison.differences);
-    let faults = comparison.counts.faults();
-    faults.iter().for_each(|fault| println!("fault: {fault}"));
-    comparison.differences == 0 && faults.is_empty()
+    verdict::passes(comparison.differences, &comparison.counts.faults())
 }
 
 struct Comparison {

@@ -9,6 +9,7 @@ use crate::allocator::record::Stored;
 use crate::allocator::state::State;
 use crate::allocator::{ours, theirs};
 use crate::random::Random;
+use crate::verdict;
 
 /// So many differences are printed in full; the others are only counted.
 const SHOWN: u64 = 20;
@@ -30,10 +31,7 @@ pub fn compare(calls: u64, seed: u64) -> bool {
     theirs::empty_lists(false);
 
     comparison.counts.print();
-    println!("differences: {}", comparison.differences);
-    let faults = comparison.counts.faults();
-    faults.iter().for_each(|fault| println!("fault: {fault}"));
-    comparison.differences == 0 && faults.is_empty()
+    verdict::passes(comparison.differences, &comparison.counts.faults())
 }
 
 struct Comparison {

@@ -8,6 +8,7 @@ use super::ours;
 use super::outcome::Outcome;
 use super::theirs;
 use crate::random::Random;
+use crate::verdict;
 
 /// So many differences are printed in full; the others are only counted.
 const SHOWN: u64 = 20;
@@ -25,13 +26,11 @@ pub fn compare(random_calls: u64, seed: u64) -> bool {
     }
 
     comparison.counts.print();
-    println!("differences: {}", comparison.differences);
     let mut faults = comparison.counts.faults();
     if !theirs::lists_are_untouched() {
         faults.push("the Rust's lists are not empty: a Frames object was dropped".to_string());
     }
-    faults.iter().for_each(|fault| println!("fault: {fault}"));
-    comparison.differences == 0 && faults.is_empty()
+    verdict::passes(comparison.differences, &faults)
 }
 
 struct Comparison {
