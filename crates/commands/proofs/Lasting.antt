@@ -1,16 +1,14 @@
 -- From one call to the next: the test's number lasts, and a call that is decoded can be made.
-use Prim.Native.Nat.{ℕ, zero, suc, _≤_}
+use Prim.Native.Nat.{ℕ, zero, suc}
 use mathlib.Core.Path.{_≡_, refl, sym, ap, subst, _∙_}
 use mathlib.Core.Bool.{Bool, true, false}
 use mathlib.Core.List.{List}
 use lib.ListN.{length}
 use lib.Dec.{eqb}
 use borrow.Author.Tests.{le-ltb}
-use Rattle.memory_structs.specs.Choice.{if_then_else_}
 use Rattle.memory_structs.proofs.Bools.{if-cases}
 use Rattle.model.specs.Store.{load, recordOf, wordsOf}
 use Rattle.model.specs.Calls.{Call, Outcome, answer, shortBuffer, unchanged, stored, call}
-use Rattle.model.specs.declared.Called.{Called}
 use Rattle.model.specs.declared.FrameAllocator.{FrameAllocator}
 use Rattle.rules.specs.Check.{checked, Ruled, Does}
 use Rattle.rules.proofs.Numbers.{checked-ruled, short-call, refused-call, accepted-call}

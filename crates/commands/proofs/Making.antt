@@ -1,23 +1,22 @@
 -- One call, made by the number of the test.
-use Prim.Native.Nat.{ℕ, zero, suc, _+_, _*_, _-_, _≤_, _<_}
+use Prim.Native.Nat.{ℕ, _+_, _*_, _-_, _≤_, _<_}
 use native.Mathlib.Omega.{arith}
 use mathlib.Core.Path.{_≡_, refl, sym, ap, subst, _∙_}
 use mathlib.Core.Bool.{Bool, true, false}
 use mathlib.Core.List.{List}
 use lib.ListN.{length, take, drop}
-use lib.Dec.{leb}
 use borrow.Author.Tests.{leb-true, lt-ltb, le-ltb, ltb-false}
 use Rattle.memory_structs.specs.Choice.{if_then_else_}
 use Rattle.model.specs.Store.{load}
-use Rattle.model.specs.Calls.{Call, heldCall, totalCall, Outcome, answer, shortBuffer, unchanged, call, Gives, Answers, BufferAfter, ListsHeld}
+use Rattle.model.specs.Calls.{Call, heldCall, totalCall, Outcome, answer, shortBuffer, unchanged, call, Gives, Answers}
 use Rattle.model.specs.declared.Answer.{Answer}
 use Rattle.model.specs.declared.Called.{Called}
 use Rattle.model.specs.declared.Kind.{Kind}
 use Rattle.model.specs.declared.Kind.the-variants.{General, Reserved}
 use Rattle.model.specs.declared.FrameAllocator.{FrameAllocator}
 use Rattle.model.proofs.Unchanged.{Question, general-total, reserved-total, held, question-unchanged}
-use Rattle.rules.specs.Check.{checked, refusedWith, Ruled, Does}
-use Rattle.rules.proofs.Numbers.{checked-ruled, short-call, gives-refused}
+use Rattle.rules.specs.Check.{checked, refusedWith, Does}
+use Rattle.rules.proofs.Numbers.{short-call, gives-refused}
 use Rattle.rules.proofs.Going.{gives-does}
 use Rattle.held_list.specs.Listed.{Listed}
 use Rattle.queries.proofs.Asked.{answers-going, held-going}
@@ -27,7 +26,7 @@ use Rattle.requests.specs.declared.Request.the-variants.{Frames, Bytes, FramesA
 use Rattle.commands.specs.declared.Command.{Command}
 use Rattle.commands.specs.declared.Command.the-variants.{Boot, BootBytes, Sort, Allocate, Return, KindOf, FreeTotal, HeldList}
 use Rattle.commands.specs.Commands.{listed, InList, areasAt, callOf, answeredWith}
-use Rattle.commands.specs.Made.{numberFor, Goes, Left, Made}
+use Rattle.commands.specs.Made.{numberFor, Goes, Made}
 
 -- ---- a boot's areas: the part of the list from one word to another
 

@@ -1,21 +1,19 @@
 -- The calls of a run, made one after the other: what those made so far left is where those still to be made start.
 use Prim.Native.Nat.{ℕ, suc, _+_, _*_, _≤_}
 use native.Mathlib.Omega.{arith}
-use native.Mathlib.Numerals.{add-one}
 use mathlib.Core.Path.{_≡_, refl, sym, ap, subst, _∙_}
 use mathlib.Core.List.{List, [], _∷_, _++_, append-assoc, append-nil}
 use lib.ListN.{length, take, drop, set, length-append, take-append-drop}
 use lib.Seq.{length-take-le, take-at, drop-at, drop-drop, sets-eq}
-use Rattle.model.specs.Boot.{Extent}
-use Rattle.model.specs.Calls.{Call, call, freshRecord}
-use Rattle.model.specs.History.{outcomes, recordAfter, wordsAfter, isGeneral, Boots, Demand3, Holds}
+use Rattle.model.specs.Calls.{Call, call}
+use Rattle.model.specs.History.{outcomes, recordAfter, wordsAfter, Demand3, Holds}
 use Rattle.model.specs.declared.Answer.{Answer}
 use Rattle.model.specs.declared.Called.{Called}
 use Rattle.model.specs.declared.FrameAllocator.{FrameAllocator}
 use Rattle.model.proofs.Claimed.{demand-3}
 use Rattle.commands.specs.Made.{Made}
-use Rattle.run.specs.declared.Ran.{Ran}
-use Rattle.run.specs.Runs.{answerWords, allAnswers, Buffers, none, next, RunsCalls, Demanded}
+use Rattle.run.specs.declared.RunEnd.{RunEnd}
+use Rattle.run.specs.Runs.{ranTo, answerWords, allAnswers, Buffers, none, next, RunsCalls, Demanded}
 
 -- ---- one answer
 
@@ -91,14 +89,14 @@ module _ {all : List Call} {first : FrameAllocator} {ws₀ answers₀ held₀ : 
         (subst (λ (y : FrameAllocator). Along all first ws₀ answers₀ held₀ (made + 1) rest y (call c a ws .words) answers-after held-after) (sym (m .gives .records)) n)
 
   -- none is left
-  pub along-end : {a : FrameAllocator} {ws answers held : List ℕ} → Along all first ws₀ answers₀ held₀ made [] a ws answers held → 5 * made ≤ length answers → (r : Ran) → r .allocator ≡ a → r .made ≡ made → RunsCalls all first ws₀ answers₀ held₀ r ws answers held
+  pub along-end : {a : FrameAllocator} {ws answers held : List ℕ} → Along all first ws₀ answers₀ held₀ made [] a ws answers held → 5 * made ≤ length answers → (end : RunEnd) → RunsCalls all first ws₀ answers₀ held₀ (ranTo a made end) ws answers held
   unfolding recordAfter wordsAfter outcomes allAnswers
-  along-end {a = a} {ws = ws} {answers = answers} {held = held} s h r ra rm =
+  along-end {a = a} {ws = ws} {answers = answers} {held = held} s h end =
       let written : allAnswers (outcomes all first ws₀) ≡ take (5 * made) answers = s .answered ∙ append-nil (take (5 * made) answers) in
       let n : length (allAnswers (outcomes all first ws₀)) ≡ 5 * made = ap length written ∙ length-take-le (5 * made) answers h in
       record {
-        made = omega (arith, s .counted, rm);
-        records = ra ∙ sym (s .records);
+        made = omega (arith, s .counted);
+        records = sym (s .records);
         words = sym (s .words);
         answered =
             sym (take-append-drop (5 * made) answers)

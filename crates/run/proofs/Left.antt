@@ -1,12 +1,11 @@
 -- The calls that are left, and how the run will end, after so many calls.
-use Prim.Native.Nat.{ℕ, zero, suc, _+_, _*_, _-_, _≤_, _<_}
+use Prim.Native.Nat.{ℕ, suc, _+_, _*_, _-_, _≤_, _<_}
 use native.Mathlib.Omega.{arith}
-use mathlib.Core.Path.{_≡_, refl, sym, ap, _∙_}
+use mathlib.Core.Path.{_≡_, ap, _∙_}
 use mathlib.Core.List.{List, [], _∷_}
 use lib.ListN.{length, take, drop, getD}
 use lib.Seq.{take-nil}
 use Rattle.model.specs.Calls.{Call}
-use Rattle.areas.specs.Areas.{triples}
 use Rattle.areas.proofs.Read.{next-three, none-left}
 use Rattle.commands.specs.Commands.{decoded, callOf}
 use Rattle.commands.specs.declared.Command.{Command}

@@ -4,19 +4,20 @@ use native.Mathlib.Omega.{arith}
 use mathlib.Core.Path.{_≡_, refl, sym, ap, subst, _∙_}
 use mathlib.Core.List.{List, [], _∷_, _++_}
 use lib.ListN.{length, take, drop}
-use Rattle.model.specs.Calls.{Call, call}
+use Rattle.model.specs.Calls.{Call}
 use Rattle.model.specs.declared.Called.{Called}
 use Rattle.model.specs.declared.FrameAllocator.{FrameAllocator}
 use Rattle.rules.specs.Check.{checked}
 use Rattle.commands.specs.Commands.{callOf}
 use Rattle.commands.specs.Made.{Made}
 use Rattle.commands.specs.declared.Command.{Command}
+use Rattle.commands.specs.declared.Decoded.{Decoded}
 use Rattle.commands.specs.declared.Decoded.the-variants.{Make, Damaged}
 use Rattle.commands.proofs.Lasting.{test-lasts}
 use Rattle.run.specs.declared.Ran.{Ran}
 use Rattle.run.specs.declared.RunEnd.{RunEnd}
-use Rattle.run.specs.declared.RunEnd.the-variants as end
-use Rattle.run.specs.Runs.{decodedIn, callsIn, callsMade, endOf, answerWords, Runs}
+use Rattle.run.specs.declared.RunEnd.the-variants as ends
+use Rattle.run.specs.Runs.{decodedIn, callsIn, callsMade, endOf, ranTo, answerWords, Runs}
 use Rattle.run.proofs.Along.{Along, along-start, along-next, along-end, demanded}
 use Rattle.run.proofs.Left.{decodedAt, left, endLeft, left-done, end-done, left-damaged, end-damaged, left-full, end-full, left-next, end-next}
 
@@ -49,36 +50,41 @@ reached-start areas calls a ws answers held number e =
 
 module _ {areas calls : List ℕ} {first : FrameAllocator} {ws₀ answers₀ held₀ : List ℕ} {number made : ℕ} {a : FrameAllocator} {ws answers held : List ℕ} (s : Reached areas calls first ws₀ answers₀ held₀ number made a ws answers held) where
   -- no call is left
-  stops : left areas calls (length held₀) (length answers₀ / 5) made ≡ [] → (r : Ran) → r .allocator ≡ a → r .made ≡ made → r .end ≡ endLeft areas calls (length held₀) (length answers₀ / 5) made →
+  stops : left areas calls (length held₀) (length answers₀ / 5) made ≡ [] → (end : RunEnd) → endLeft areas calls (length held₀) (length answers₀ / 5) made ≡ end → (r : Ran) → r ≡ ranTo a made end →
       Runs areas calls first ws₀ answers₀ held₀ r ws answers held
-  stops e r ra rm re =
+  stops e end re r k =
       let n = s .answers-length in
       let w = s .written in
-      record {
-        runs = along-end (subst (λ (cs : List Call). Along (callsMade areas calls answers₀ held₀) first ws₀ answers₀ held₀ made cs a ws answers held) e (s .along)) (omega arith) r ra rm;
-        ends = re ∙ sym (s .ends);
+      subst (λ (x : Ran). Runs areas calls first ws₀ answers₀ held₀ x ws answers held) (sym k)
+      (record {
+        runs = along-end (subst (λ (cs : List Call). Along (callsMade areas calls answers₀ held₀) first ws₀ answers₀ held₀ made cs a ws answers held) e (s .along)) (omega arith) end;
+        ends = sym (s .ends ∙ re);
         demand = demanded (callsMade areas calls answers₀ held₀) first ws₀;
-      }
+      })
 
-  pub stops-done : length calls < 3 * made + 3 → (r : Ran) → r .allocator ≡ a → r .made ≡ made → r .end ≡ end.Done → Runs areas calls first ws₀ answers₀ held₀ r ws answers held
-  stops-done h r ra rm re =
-      stops (left-done areas calls (length held₀) (length answers₀ / 5) made h) r ra rm (re ∙ sym (end-done areas calls (length held₀) (length answers₀ / 5) made h))
+  pub stops-done : length calls < 3 * made + 3 → (r : Ran) → r ≡ ranTo a made ends.Done → Runs areas calls first ws₀ answers₀ held₀ r ws answers held
+  stops-done h r k =
+      stops (left-done areas calls (length held₀) (length answers₀ / 5) made h) ends.Done (end-done areas calls (length held₀) (length answers₀ / 5) made h) r k
 
   module _ (h : 3 * made + 3 ≤ length calls) where
-    pub stops-damaged : decodedAt areas calls (3 * made) ≡ Damaged → (r : Ran) → r .allocator ≡ a → r .made ≡ made → r .end ≡ end.Damaged → Runs areas calls first ws₀ answers₀ held₀ r ws answers held
-    stops-damaged e r ra rm re =
-        stops (left-damaged areas calls (length held₀) (length answers₀ / 5) made h e) r ra rm (re ∙ sym (end-damaged areas calls (length held₀) (length answers₀ / 5) made h e))
+    pub stops-damaged : (d : Decoded) → d ≡ decodedAt areas calls (3 * made) → d ≡ Damaged → (r : Ran) → r ≡ ranTo a made ends.Damaged → Runs areas calls first ws₀ answers₀ held₀ r ws answers held
+    stops-damaged d p q r k =
+        let e = sym p ∙ q in
+        stops (left-damaged areas calls (length held₀) (length answers₀ / 5) made h e) ends.Damaged (end-damaged areas calls (length held₀) (length answers₀ / 5) made h e) r k
 
-    module _ (c : Command) (e : decodedAt areas calls (3 * made) ≡ Make c) where
-      pub stops-full : length answers < 5 * made + 5 → (r : Ran) → r .allocator ≡ a → r .made ≡ made → r .end ≡ end.NoRoom → Runs areas calls first ws₀ answers₀ held₀ r ws answers held
-      stops-full f r ra rm re =
+    module _ (c : Command) (d : Decoded) (p : d ≡ decodedAt areas calls (3 * made)) (q : d ≡ Make c) where
+      next-is : decodedAt areas calls (3 * made) ≡ Make c
+      next-is = sym p ∙ q
+
+      pub stops-full : length answers < 5 * made + 5 → (r : Ran) → r ≡ ranTo a made ends.NoRoom → Runs areas calls first ws₀ answers₀ held₀ r ws answers held
+      stops-full f r k =
           let n = s .answers-length in
           let full : length answers₀ / 5 ≤ made = omega arith in
-          stops (left-full areas calls (length held₀) (length answers₀ / 5) made h c e full) r ra rm (re ∙ sym (end-full areas calls (length held₀) (length answers₀ / 5) made h c e full))
+          stops (left-full areas calls (length held₀) (length answers₀ / 5) made h c next-is full) ends.NoRoom (end-full areas calls (length held₀) (length answers₀ / 5) made h c next-is full) r k
 
       -- the test's number lasts, whatever the call
-      lasts : {d : Call} {called : Called} {words-after held-after : List ℕ} → Made d a ws held called words-after held-after → number ≡ checked (called .allocator) words-after
-      lasts {d = d} m = s .tested ∙ sym (test-lasts d a ws) ∙ (λ i. checked (sym (m .gives .records) i) (sym (m .gives .words) i))
+      lasts : {made-call : Call} {called : Called} {words-after held-after : List ℕ} → Made made-call a ws held called words-after held-after → number ≡ checked (called .allocator) words-after
+      lasts {made-call = made-call} m = s .tested ∙ sym (test-lasts made-call a ws) ∙ (λ i. checked (sym (m .gives .records) i) (sym (m .gives .words) i))
 
       pub reached-next : 5 * made + 5 ≤ length answers → {called : Called} {words-after held-after : List ℕ} → Made (callOf areas (length held) c) a ws held called words-after held-after →
           (answers-after : List ℕ) → answers-after ≡ take (5 * made) answers ++ answerWords (called .answer) ++ drop (5 * made + 5) answers →
@@ -91,10 +97,10 @@ module _ {areas calls : List ℕ} {first : FrameAllocator} {ws₀ answers₀ hel
           subst (λ (k : ℕ). Made (callOf areas k c) a ws held called words-after held-after) (s .held-length) m in
           let here : Along (callsMade areas calls answers₀ held₀) first ws₀ answers₀ held₀ made (callOf areas (length held₀) c ∷ left areas calls (length held₀) (length answers₀ / 5) (made + 1)) a ws answers held =
           subst (λ (cs : List Call). Along (callsMade areas calls answers₀ held₀) first ws₀ answers₀ held₀ made cs a ws answers held)
-          (left-next areas calls (length held₀) (length answers₀ / 5) made h c e more) (s .along) in
+          (left-next areas calls (length held₀) (length answers₀ / 5) made h c next-is more) (s .along) in
           record {
             along = along-next here room known answers-after w;
-            ends = s .ends ∙ end-next areas calls (length held₀) (length answers₀ / 5) made h c e more;
+            ends = s .ends ∙ end-next areas calls (length held₀) (length answers₀ / 5) made h c next-is more;
             tested = lasts m;
             read = omega arith;
             written = omega arith;

@@ -41,6 +41,9 @@ endOf room (Damaged ∷ ds) = end.Damaged
 endOf zero (Make c ∷ ds) = end.NoRoom
 endOf (suc room) (Make c ∷ ds) = endOf room ds
 
+abbrev pub ranTo : FrameAllocator → ℕ → RunEnd → Ran
+ranTo a n e = record { allocator = a; made = n; end = e }
+
 -- ---- what they leave
 
 -- number, start, end, frame, count

@@ -4,7 +4,7 @@ ghost use mathlib.Core.Path.{_≡_};
 ghost use mathlib.Core.List.{_++_};
 ghost use Prim.Native.Nat.{_+_, _≤_};
 ghost use lib.ListN.{length, take, drop};
-ghost use Rattle.run.specs.Runs.{answerWords, Runs};
+ghost use Rattle.run.specs.Runs.{ranTo, answerWords, Runs};
 use commands::Decoded;
 use model::Answer;
 use model::FrameAllocator;
@@ -58,7 +58,7 @@ pub fn run(
 }
 
 fn ended(allocator: FrameAllocator, made: usize, end: RunEnd) -> Ran
-    ensures { λ r. ⌜ (r .allocator ≡ allocator) × (r .made ≡ made) × (r .end ≡ end) ⌝ }
+    ensures { λ r. ⌜ r ≡ ranTo allocator made end ⌝ }
 {
     Ran {
         allocator,

@@ -1,5 +1,4 @@
 -- `number_for`: by the command, and by the buffer of a held list.
-use native.Mathlib.Omega.{arith}
 use mathlib.Core.List.{[], _∷_}
 use types.Run.{miss}
 use Rattle.commands.proofs.Making.{other-number, short-number, long-number}

@@ -80,7 +80,7 @@ returns : tie.Need-returns Inv-loop μ-loop
 returns c =
     let k = c .before .before .before in
     let i = k .before .before .before .before .before in
-    stops-damaged (i .loop .inv) (omega arith) (sym (k .decode .ensures) ∙ c .before .enum-told .given .1) _ (c .ended .ensures .0) (c .ended .ensures .1) (c .ended .ensures .2)
+    stops-damaged (i .loop .inv) (omega arith) _ (k .decode .ensures) (c .before .enum-told .given .1) _ (c .ended .ensures)
 
 mul-at : tie.Need-mul-at Inv-loop μ-loop
 mul-at c = omega arith
@@ -105,7 +105,7 @@ returns-2 c =
     let d = c .before .before .before in
     let k = d .before .before in
     let i = k .before .before .before .before .before in
-    stops-full (i .loop .inv) (omega arith) _ (sym (k .decode .ensures) ∙ d .decoded .given .1) (omega arith) _ (c .ended2 .ensures .0) (c .ended2 .ensures .1) (c .ended2 .ensures .2)
+    stops-full (i .loop .inv) (omega arith) _ _ (k .decode .ensures) (d .decoded .given .1) (omega arith) _ (c .ended2 .ensures)
 
 make-call-requires : tie.Need-make-call-requires Inv-loop μ-loop
 make-call-requires c κs =
@@ -129,7 +129,7 @@ loop-again c =
     let d = m .before .before .before .before .before in
     let k = d .before .before in
     let i = k .before .before .before .before .before in
-    reached-next (i .loop .inv) (omega arith) _ (sym (k .decode .ensures) ∙ d .decoded .given .1) (omega arith) (m .make-call .ensures) _ (w .write-answer .ensures) (omega (arith, c .before .before .before .before .before .before .before .before .words .given)) (omega (arith, c .before .before .answers .given)) (omega (arith, c .before .before .before .before .before .before .held .given))
+    reached-next (i .loop .inv) (omega arith) _ _ (k .decode .ensures) (d .decoded .given .1) (omega arith) (m .make-call .ensures) _ (w .write-answer .ensures) (omega (arith, c .before .before .before .before .before .before .before .before .words .given)) (omega (arith, c .before .before .answers .given)) (omega (arith, c .before .before .before .before .before .before .held .given))
 
 ended-requires-3 : tie.Need-ended-requires-3 Inv-loop μ-loop
 ended-requires-3 c κs = search needs
@@ -144,7 +144,7 @@ same-length-9 : tie.Need-same-length-9 Inv-loop μ-loop
 same-length-9 c = search needs
 
 returns-3 : tie.Need-returns-3 Inv-loop μ-loop
-returns-3 c = stops-done (c .before .before .loop .inv) (omega arith) _ (c .ended3 .ensures .0) (c .ended3 .ensures .1) (c .ended3 .ensures .2)
+returns-3 c = stops-done (c .before .before .loop .inv) (omega arith) _ (c .ended3 .ensures)
 
 pub run-spec : {M : Type 1} → statement M
 run-spec =
