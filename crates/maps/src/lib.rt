@@ -1,5 +1,6 @@
 // A boot map as a slice of area structs: document 01, "Areas come as a lent list of start, end and kind". A thin walk over the slice
-// copies the reserved areas and hands each general one to the core that the word form has too (`areas`).
+// copies the reserved areas, and another hands each area to the core that the word form has too (`areas::carve_area`), which carves the
+// general ones.
 ghost use mathlib.Core.List.{[], _∷_};
 ghost use Rattle.areas.specs.Areas.{piecesIn};
 ghost use Rattle.carving.specs.Ranges.{rangesIn, Carvable, Appended};
