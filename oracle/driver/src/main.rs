@@ -1,6 +1,7 @@
 //! Holds the static library to the Theseus sources: see ../README.md.
 
 mod allocator;
+mod bench;
 mod boots;
 mod calls;
 mod frames;
@@ -12,7 +13,7 @@ use std::path::Path;
 use std::process::ExitCode;
 use std::{env, io};
 
-const USAGE: &str = "usage: run [--random CALLS] [--boots BOOTS] [--calls CALLS] [--seed NUMBER]
+const USAGE: &str = "usage: run [--random CALLS] [--boots BOOTS] [--calls CALLS] [--scripts SCRIPTS] [--seed NUMBER]
        run --replay-list FOLDER
        run --replay-calls FOLDER
        run --departures";
@@ -22,6 +23,8 @@ const RANDOM_CALLS: u64 = 40_000_000;
 const RANDOM_BOOTS: u64 = 1_000_000;
 /// Calls in random lists; every second one is a question.
 const LISTED_CALLS: u64 = 8_000_000;
+/// Scripts for the bench program.
+const SCRIPTS: u64 = 3_000;
 const SEED: u64 = 1;
 
 fn main() -> ExitCode {
@@ -43,12 +46,15 @@ fn main() -> ExitCode {
         eprintln!("{USAGE}");
         return ExitCode::from(2);
     };
-    let Options { random, boots, calls, seed } = options;
+    let Options { random, boots, calls, scripts, seed } = options;
     println!(
-        "random calls: {random}, random boots: {boots}, calls in lists: {calls}, seed: {seed}"
+        "random calls: {random}, random boots: {boots}, calls in lists: {calls}, scripts: {scripts}, seed: {seed}"
     );
     status(
-        ranges::compare(random, seed) & boots::compare(boots, seed) & calls::compare(calls, seed),
+        ranges::compare(random, seed)
+            & boots::compare(boots, seed)
+            & calls::compare(calls, seed)
+            & bench::compare(scripts, seed),
     )
 }
 
@@ -70,22 +76,29 @@ fn status(success: bool) -> ExitCode {
     }
 }
 
-/// How many random calls, boots and calls in lists are compared.
+/// How many random calls, boots, calls in lists and scripts are compared.
 struct Options {
     random: u64,
     boots: u64,
     calls: u64,
+    scripts: u64,
     seed: u64,
 }
 
 fn comparison_options(arguments: &[&str]) -> Option<Options> {
-    let mut options =
-        Options { random: RANDOM_CALLS, boots: RANDOM_BOOTS, calls: LISTED_CALLS, seed: SEED };
+    let mut options = Options {
+        random: RANDOM_CALLS,
+        boots: RANDOM_BOOTS,
+        calls: LISTED_CALLS,
+        scripts: SCRIPTS,
+        seed: SEED,
+    };
     for option in arguments.chunks(2) {
         match option {
             ["--random", number] => options.random = number.parse().ok()?,
             ["--boots", number] => options.boots = number.parse().ok()?,
             ["--calls", number] => options.calls = number.parse().ok()?,
+            ["--scripts", number] => options.scripts = number.parse().ok()?,
             ["--seed", number] => options.seed = number.parse().ok()?,
             _ => return None,
         }

@@ -33,26 +33,42 @@ enum Filling {
     Give(usize),
 }
 
-impl Plan {
-    /// One in four fills a list of 32, and one in 150 a list of 512, which takes long.
-    pub fn new(random: &mut Random) -> Plan {
-        let filling = match random.below(5) {
+impl Filling {
+    fn any(random: &mut Random) -> Filling {
+        match random.below(5) {
             0 => Filling::Split(GENERAL_FREE),
             1 => Filling::Split(RESERVED_FREE),
             2 => Filling::Give(GENERAL_FREE),
             3 => Filling::Give(RESERVED_FREE),
             _ => Filling::Grow,
-        };
+        }
+    }
+}
+
+impl Plan {
+    /// One in four fills a list of 32, and one in 150 a list of 512, which takes long.
+    pub fn new(random: &mut Random) -> Plan {
+        let filling = Filling::any(random);
         let any = 1 + random.below(40);
         if random.once_in(150) {
-            let opening = [Call::Boot(wide_boot(1_500, random)), Call::Sort].into();
-            return Plan { opening, filling, longer: 560, any: 100, asks: false };
+            return Plan::filling_tables(filling, random);
         }
         if random.once_in(4) {
             let opening = [Call::Boot(wide_boot(100, random))].into();
             return Plan { opening, filling, longer: 34, any, asks: false };
         }
         Plan { opening: opening(random), filling, longer: 0, any, asks: false }
+    }
+
+    /// Fills a list of 512.
+    pub fn of_full_tables(random: &mut Random) -> Plan {
+        let filling = Filling::any(random);
+        Plan::filling_tables(filling, random)
+    }
+
+    fn filling_tables(filling: Filling, random: &mut Random) -> Plan {
+        let opening = [Call::Boot(wide_boot(1_500, random)), Call::Sort].into();
+        Plan { opening, filling, longer: 560, any: 100, asks: false }
     }
 
     pub fn next(&mut self, state: &State, random: &mut Random) -> Option<Call> {
@@ -64,7 +80,8 @@ impl Plan {
         self.next_change(state, random)
     }
 
-    fn next_change(&mut self, state: &State, random: &mut Random) -> Option<Call> {
+    /// The next call that is no question.
+    pub fn next_change(&mut self, state: &State, random: &mut Random) -> Option<Call> {
         if let Some(call) = self.opening.pop_front() {
             return Some(call);
         }

@@ -16,4 +16,6 @@ mod small;
 
 pub use compare::compare;
 pub use departures::{ask_rust, show};
+pub use generate::Plan;
+pub use judge::Judgement;
 pub use replay::write_list;
