@@ -162,15 +162,15 @@ pub fn frames_in<'a>(
     ensures { λ r. ⌜ r ≡ framesIn (range start end) (entries (slotsOf (earlyListOf (now (starts .entry)) (now (ends .entry)) (now (used .entry))))) ⌝ }
 {
     let mut total = 0;
-    let mut i = 0;
-    while i < 32 {
-        let frames = if used[i] {
-            common_frames(start, end, starts[i], ends[i])
+    let mut slot = 0;
+    while slot < 32 {
+        let frames = if used[slot] {
+            common_frames(start, end, starts[slot], ends[slot])
         } else {
             0
         };
         total += frames;
-        i += 1;
+        slot += 1;
     }
     total
 }
