@@ -11,7 +11,7 @@ use Rattle.model.specs.declared.Kind.{Kind}
 use Rattle.model.specs.declared.Kind.the-variants.{General, Reserved}
 use Rattle.areas.specs.Areas.{kindOfWord, triples, areasIn}
 use Rattle.bench_areas.specs.declared.AreaCounts.{AreaCounts}
-use Rattle.bench_areas.specs.Areas.{Few, Room, Adds, countOf, oneMore, wordOf, wordsUsed}
+use Rattle.bench_areas.specs.Areas.{Few, Room, Adds, countOf, oneMore, wordOf, sameKind, howMany, wordsUsed, collected}
 
 pub kind-back : (k : Kind) → kindOfWord (wordOf k) ≡ k
 unfolding kindOfWord wordOf
@@ -70,20 +70,34 @@ unfolding countOf
 full General c few h = omega (arith, few .general-few)
 full Reserved c few h = omega (arith, few .reserved-few)
 
+-- an area more counts for its own kind
+count-more : (k j : Kind) (c : AreaCounts) → countOf k (oneMore j c) ≡ countOf k c + sameKind k j
+unfolding countOf oneMore sameKind
+count-more General General c = refl
+count-more General Reserved c = omega arith
+count-more Reserved General c = omega arith
+count-more Reserved Reserved c = refl
+
+many-more : (k : Kind) (areas : List Area) (a : Area) → howMany k (areas ++ (a ∷ [])) ≡ howMany k areas + sameKind k (a .kind)
+unfolding howMany
+many-more k [] a = omega arith
+many-more k (x ∷ areas) a = ap (_+_ (sameKind k (x .kind))) (many-more k areas a) ∙ omega arith
+
 -- the area stands after the others
 pub adds : (a : Area) (c : AreaCounts) (ws : List ℕ) {at w : ℕ} {d : AreaCounts} → Room c ws → countOf (a .kind) c < 64 →
     at ≡ wordsUsed c → w ≡ wordOf (a .kind) → d ≡ oneMore (a .kind) c →
     Adds a c ws d (set (set (set ws at (a .start)) (at + 1) (a .end)) (at + 2) w)
 adds a c ws {at} {w} {d} room n place word more = record {
   counts = more;
-  areas =
-      ap (λ (m : ℕ). areasIn (take m after)) last
-      ∙ ap areasIn (written ws at (a .start) (a .end) w (omega (arith, long, there)))
-      ∙ triples-more _ (c .general + c .reserved) (take at ws) (a .start) (a .end) w (length-take-le at ws (omega (arith, long, there)) ∙ place)
-      ∙ (λ i. areasIn (take (place i) ws) ++ (record { start = a .start; end = a .end; kind = (ap kindOfWord word ∙ kind-back (a .kind)) i } ∷ []));
+  areas = one-after;
   room = record {
     few = subst Few (sym more) (few-more (a .kind) c n (room .few));
     long = simp length-set long;
+    counted = λ k.
+        ap (countOf k) more ∙ count-more k (a .kind) c
+        ∙ ap (λ (n : ℕ). n + sameKind k (a .kind)) (room .counted k)
+        ∙ sym (many-more k (collected c ws) a)
+        ∙ ap (howMany k) (sym one-after);
   };
 }
   where
@@ -98,3 +112,10 @@ adds a c ws {at} {w} {d} room n place word more = record {
 
     last : wordsUsed d ≡ at + 3
     last = ap (λ (x : AreaCounts). wordsUsed x) more ∙ words-more (a .kind) c ∙ omega (arith, place)
+
+    one-after : collected d after ≡ collected c ws ++ (a ∷ [])
+    one-after =
+        ap (λ (m : ℕ). areasIn (take m after)) last
+        ∙ ap areasIn (written ws at (a .start) (a .end) w (omega (arith, long, there)))
+        ∙ triples-more _ (c .general + c .reserved) (take at ws) (a .start) (a .end) w (length-take-le at ws (omega (arith, long, there)) ∙ place)
+        ∙ (λ i. areasIn (take (place i) ws) ++ (record { start = a .start; end = a .end; kind = (ap kindOfWord word ∙ kind-back (a .kind)) i } ∷ []))

@@ -27,15 +27,22 @@ unfoldable pub wordOf : Kind → ℕ
 wordOf General = 0
 wordOf Reserved = 1
 
+-- 1 where the kinds are the same
+unfoldable pub sameKind : Kind → Kind → ℕ
+sameKind General General = 1
+sameKind General Reserved = 0
+sameKind Reserved General = 0
+sameKind Reserved Reserved = 1
+
+-- how many areas of a kind there are
+unfoldable pub howMany : Kind → List Area → ℕ
+howMany k [] = 0
+howMany k (a ∷ areas) = sameKind k (a .kind) + howMany k areas
+
 -- "collect areas (64 each)"
 pub record Few (c : AreaCounts) : Type 0 where
   pub general-few : c .general ≤ 64
   pub reserved-few : c .reserved ≤ 64
-
--- and words for all of them
-pub record Room (c : AreaCounts) (ws : List ℕ) : Type 0 where
-  pub few : Few c
-  pub long : 384 ≤ length ws
 
 abbrev pub wordsUsed : AreaCounts → ℕ
 wordsUsed c = 3 * (c .general + c .reserved)
@@ -43,6 +50,12 @@ wordsUsed c = 3 * (c .general + c .reserved)
 -- the areas that were collected, in their order
 abbrev pub collected : AreaCounts → List ℕ → List Area
 collected c ws = areasIn (take (wordsUsed c) ws)
+
+-- the counts are those of the areas, and there are words for all that may come
+pub record Room (c : AreaCounts) (ws : List ℕ) : Type 0 where
+  pub few : Few c
+  pub long : 384 ≤ length ws
+  pub counted : (k : Kind) → countOf k c ≡ howMany k (collected c ws)
 
 -- what collecting one more does
 pub record Adds (a : Area) (c : AreaCounts) (before : List ℕ) (d : AreaCounts) (after : List ℕ) : Type 0 where

@@ -5,7 +5,7 @@ ghost use Prim.Native.Nat.{_≤_};
 ghost use lib.ListN.{length, take};
 ghost use Rattle.lines.specs.Words.{wordsIn};
 ghost use Rattle.bench_lines.specs.Commands as command;
-ghost use Rattle.bench_lines.specs.Lines.{Holds};
+ghost use Rattle.bench_lines.specs.Lines.{LineHeld};
 use lines::Word;
 
 // What a line asks for. `Bad` is any line that document 01 does not name.
@@ -25,7 +25,7 @@ pub enum Command {
 // buffer of 129 bytes tells a line above 128 from the others, however long the line is.
 pub fn hold(line: &mut [u8], len: usize, more: &[u8]) -> usize
     requires { ⌜ len ≤ length (now line) ⌝ }
-    ensures { λ r. ⌜ Holds (take len (now (line .entry)) ++ now (more .entry)) (now (line .exit)) r ⌝ }
+    ensures { λ r. ⌜ LineHeld (take len (now (line .entry)) ++ now (more .entry)) (now (line .exit)) r ⌝ }
 {
     let room = line.len() - len;
     if room < more.len() {

@@ -2,18 +2,22 @@
 use native.Mathlib.Omega.{arith}
 use Prim.Native.Nat.{ℕ, _+_, _-_, _*_, _≤_, _<_}
 use mathlib.Core.Path.{_≡_, refl, sym, ap, subst, _∙_}
-use mathlib.Core.List.{List, [], _∷_}
+use mathlib.Core.List.{List, [], _∷_, _++_}
 use lib.ListN.{length, drop, length-append}
 use Rattle.memory_structs.specs.declared.range.FrameRange.{FrameRange}
 use Rattle.model.specs.Lists.{entries}
-use Rattle.model.specs.Store.{tableSlots}
 use Rattle.tables.proofs.Search.{pairAt, slots-cons}
+use Rattle.model.specs.Store.{load, tableSlots}
+use Rattle.model.specs.declared.FrameAllocator.{FrameAllocator}
+use Rattle.lists.specs.Record.{slotsAt}
+use Rattle.rules.specs.Check.{Ruled}
+use Rattle.parts.proofs.Tidy.{few}
 use Rattle.lists.specs.declared.record.WhichList.{WhichList}
 use Rattle.lists.specs.declared.record.WhichList.the-variants.{GeneralFree, ReservedFree, GeneralRegions, ReservedRegions}
-use Rattle.bench_texts.specs.Texts.{Puts}
+use Rattle.bench_texts.specs.Texts.{Puts, lineEndText}
 use Rattle.bench_texts.proofs.Puts.{puts-then, puts-nothing}
 use Rattle.bench_texts.proofs.Decimal.{range-length}
-use Rattle.bench_lists.specs.ListLines.{entryOpening, entryClosing, entryRoom, entriesRoom, entryText, entriesText, nameText}
+use Rattle.bench_lists.specs.ListLines.{entryOpening, entryClosing, entryRoom, entriesRoom, entryText, entriesText, nameText, listLine, lineOf, lineRoom}
 
 -- i entries at most have been put, and putting the ones that are left puts all of them
 pub record Going (whole left : List FrameRange) (before : List ℕ) (at i : ℕ) (out : List ℕ) (next : ℕ) : Type 0 where
@@ -72,3 +76,12 @@ name-length GeneralFree = omega arith
 name-length ReservedFree = omega arith
 name-length GeneralRegions = omega arith
 name-length ReservedRegions = omega arith
+
+-- so has the line of a list that keeps the rules
+pub line-within : (a : FrameAllocator) (ws : List ℕ) (w : WhichList) {before after : List ℕ} {at next : ℕ} → Ruled a ws → Puts (lineOf w (load a ws)) before at after next → next ≤ at + lineRoom
+unfolding listLine
+line-within a ws w {at = at} ruled p =
+    let rs = entries (slotsAt w (load a ws)) in
+    let count : length rs ≤ 512 = few a ws ruled w in
+    let named : length (listLine w rs) ≡ length (nameText w) + (length (entriesText rs) + 2) = length-append (nameText w) (entriesText rs ++ lineEndText) ∙ ap (_+_ (length (nameText w))) (length-append (entriesText rs) lineEndText) in
+    omega (arith, p .place, named, name-length w, entries-length rs)

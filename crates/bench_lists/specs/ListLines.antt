@@ -2,6 +2,8 @@
 use Prim.Native.Nat.{ℕ, _+_}
 use mathlib.Core.List.{List, [], _∷_, _++_}
 use Rattle.memory_structs.specs.declared.range.FrameRange.{FrameRange}
+use Rattle.model.specs.Lists.{Lists, entries}
+use Rattle.lists.specs.Record.{slotsAt}
 use Rattle.lists.specs.declared.record.WhichList.{WhichList}
 use Rattle.lists.specs.declared.record.WhichList.the-variants.{GeneralFree, ReservedFree, GeneralRegions, ReservedRegions}
 use Rattle.bench_texts.specs.Texts.{rangeText, lineEndText}
@@ -49,6 +51,10 @@ nameText ReservedRegions = reservedRegionsText
 -- "`(list)` prints the four lists in stored order, an empty one as its bare name in brackets."
 unfoldable pub listLine : WhichList → List FrameRange → List ℕ
 listLine w rs = nameText w ++ (entriesText rs ++ lineEndText)
+
+-- the line of one of a record's lists
+abbrev pub lineOf : WhichList → Lists → List ℕ
+lineOf w l = listLine w (entries (slotsAt w l))
 
 -- the places that an entry takes at most: two numbers of 20 digits, a space before, one between, and the brackets
 abbrev pub entryRoom : ℕ

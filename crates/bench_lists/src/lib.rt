@@ -7,10 +7,9 @@ ghost use Rattle.model.specs.Lists.{entries};
 ghost use Rattle.model.specs.Store.{load, slotsOf, tableSlots};
 ghost use Rattle.early.specs.Slots.{earlyListOf};
 ghost use Rattle.lists.specs.One.{IsList, slotsIn};
-ghost use Rattle.lists.specs.Record.{slotsAt};
 ghost use Rattle.rules.specs.Check.{Ruled};
 ghost use Rattle.bench_texts.specs.Texts.{Puts};
-ghost use Rattle.bench_lists.specs.ListLines.{entryRoom, entriesRoom, lineRoom, entryText, entriesText, nameText, listLine};
+ghost use Rattle.bench_lists.specs.ListLines.{entryRoom, entriesRoom, lineRoom, entryText, entriesText, nameText, lineOf};
 use bench_texts::put_range;
 use bench_texts::put_text;
 use lists::OneList;
@@ -18,28 +17,34 @@ use lists::WhichList;
 use memory_structs::FrameRange;
 use model::FrameAllocator;
 
-// Writes the line at the start of the buffer, and answers its length.
-pub fn write_list(out: &mut [u8], a: FrameAllocator, words: &[u64], which: WhichList) -> usize
+// Puts the line at a place, and answers the place after it.
+pub fn put_list(
+    out: &mut [u8],
+    at: usize,
+    a: FrameAllocator,
+    words: &[u64],
+    which: WhichList,
+) -> usize
     requires { ⌜ Ruled a (now words) ⌝ }
-    requires { ⌜ lineRoom ≤ length (now out) ⌝ }
-    ensures { λ r. ⌜ Puts (listLine which (entries (slotsAt which (load a (now (words .entry)))))) (now (out .entry)) 0 (now (out .exit)) r ⌝ }
+    requires { ⌜ at + lineRoom ≤ length (now out) ⌝ }
+    ensures { λ r. ⌜ Puts (lineOf which (load a (now (words .entry)))) (now (out .entry)) at (now (out .exit)) r ⌝ }
 {
-    let entries_at = put_name(out, which);
+    let entries_at = put_name(out, at, which);
     let from = lists::part_of(which);
     let list = lists::list_of(a, which);
     let end_at = put_entries(out, entries_at, list, &words[from..from + 1024]);
     put_text(out, end_at, b")\n")
 }
 
-fn put_name(out: &mut [u8], which: WhichList) -> usize
-    requires { ⌜ lineRoom ≤ length (now out) ⌝ }
-    ensures { λ r. ⌜ Puts (nameText which) (now (out .entry)) 0 (now (out .exit)) r ⌝ }
+fn put_name(out: &mut [u8], at: usize, which: WhichList) -> usize
+    requires { ⌜ at + lineRoom ≤ length (now out) ⌝ }
+    ensures { λ r. ⌜ Puts (nameText which) (now (out .entry)) at (now (out .exit)) r ⌝ }
 {
     match which {
-        WhichList::GeneralFree => put_text(out, 0, b"(general-free"),
-        WhichList::ReservedFree => put_text(out, 0, b"(reserved-free"),
-        WhichList::GeneralRegions => put_text(out, 0, b"(general-regions"),
-        WhichList::ReservedRegions => put_text(out, 0, b"(reserved-regions"),
+        WhichList::GeneralFree => put_text(out, at, b"(general-free"),
+        WhichList::ReservedFree => put_text(out, at, b"(reserved-free"),
+        WhichList::GeneralRegions => put_text(out, at, b"(general-regions"),
+        WhichList::ReservedRegions => put_text(out, at, b"(reserved-regions"),
     }
 }
 

@@ -31,6 +31,10 @@ spaceText = 32 ∷ []
 abbrev pub doneLine : List ℕ
 doneLine = 40 ∷ 100 ∷ 111 ∷ 110 ∷ 101 ∷ 41 ∷ 10 ∷ []
 
+-- "(bad)\n"
+abbrev pub badLine : List ℕ
+badLine = 40 ∷ 98 ∷ 97 ∷ 100 ∷ 41 ∷ 10 ∷ []
+
 -- "(grant "
 abbrev pub grantText : List ℕ
 grantText = 40 ∷ 103 ∷ 114 ∷ 97 ∷ 110 ∷ 116 ∷ 32 ∷ []

@@ -5,7 +5,7 @@ use mathlib.Core.List.{_++_}
 use lib.ListN.{length, take, length-drop}
 use lib.Seq.{take-length, take-all}
 use borrow.Rule.Slice.PartMut.{putMid}
-use Rattle.bench_lines.specs.Lines.{Holds}
+use Rattle.bench_lines.specs.Lines.{LineHeld}
 use Rattle.bench_lines.proofs.Held.{held}
 use lib.ListN.{length-take}
 use native.Mathlib.Omega.{arith}
@@ -43,7 +43,7 @@ returns c =
     let room = length l - a .len in
     let h = held l m (take room m) (p .copy .last .1 .0) (a .len) room (omega arith) (omega arith) (omega arith) refl (p .copy .ensures .1) refl in
     let all : a .len + room ≡ length (putMid (a .len) room l (p .copy .last .1 .0)) = omega arith in
-    subst (Holds (take (a .len) l ++ m) (putMid (a .len) room l (p .copy .last .1 .0))) all h
+    subst (LineHeld (take (a .len) l ++ m) (putMid (a .len) room l (p .copy .last .1 .0))) all h
 
 sub-copy-2 : tie.Need-sub-copy-2
 sub-copy-2 c = search needs

@@ -1,5 +1,5 @@
--- `write_list`: the name, the entries in the list's own part, and the end.
-use Prim.Native.Nat.{ℕ, _≤_}
+-- `put_list`: the name, the entries in the list's own part, and the end.
+use Prim.Native.Nat.{ℕ, _+_, _≤_}
 use mathlib.Core.Path.{subst}
 use mathlib.Core.List.{List}
 use Rattle.model.specs.Lists.{entries}
@@ -15,8 +15,8 @@ use Rattle.bench_lists.specs.ListLines.{entriesText, listLine}
 use Rattle.bench_lists.proofs.Going.{entries-within, name-length}
 use native.Mathlib.Omega.{arith}
 use borrow.Author.Needs.{needs}
-use Rattle.bench_lists.proofs.write_list.Statement.{statement}
-use Rattle.bench_lists.proofs.write_list.Tie as tie
+use Rattle.bench_lists.proofs.put_list.Statement.{statement}
+use Rattle.bench_lists.proofs.put_list.Tie as tie
 
 put-name-requires : tie.Need-put-name-requires
 put-name-requires c κs = search needs
@@ -94,11 +94,11 @@ returns c =
     let p = e .before .before .before .before in
     let n = p .before .before .before in
     let s = n .before .before .before .before in
-    let named : n .put-name .result ≤ 17 = omega (arith, n .put-name .ensures .place, name-length (s .args .which)) in
-    puts-then (omega arith) (n .put-name .ensures) (puts-then (omega (arith, s .pre .1)) (put-whole e) (l .put-text .ensures))
+    let named : n .put-name .result ≤ s .args .at + 17 = omega (arith, n .put-name .ensures .place, name-length (s .args .which)) in
+    puts-then (omega (arith, s .pre .1)) (n .put-name .ensures) (puts-then (omega (arith, s .pre .1)) (put-whole e) (l .put-text .ensures))
 
-pub write-list-spec : {M : Type 1} → statement M
-write-list-spec =
+pub put-list-spec : {M : Type 1} → statement M
+put-list-spec =
     tie.close
     (tie.spec
     put-name-requires
