@@ -10,14 +10,13 @@
 //   (list)            prints the four lists
 //
 // A line above 128 bytes, and any other line, prints `(bad)`, and the next line is answered. A last line may lack its line end.
-mod answers;
-
-ghost use Prim.Native.Nat.{_≤_};
+ghost use Prim.Native.Nat.{_≤_, _<_};
 ghost use lib.ListN.{length};
-ghost use Rattle.bench_lists.specs.ListLines.{lineRoom};
 ghost use Rattle.io.specs.Counts.{Counts};
-ghost use Rattle.framebench.specs.Ready.{ReadyAt};
-use answers::Bench;
+ghost use Rattle.bench_answers.specs.Replies.{Ready, replyRoom};
+ghost use Rattle.framebench.specs.Reached.{ReadyAt, AnswersLine, AnswersLines};
+use bench_answers::Bench;
+use libc::STDOUT_FILENO;
 
 // The bench, and how many bytes of the next line are held.
 struct Reached {
@@ -29,7 +28,9 @@ fn main() {
     let mut chunk = [0u8; 4096];
     // One byte more than a line may have: see `bench_lines::hold`.
     let mut line = [0u8; 129];
-    let mut out = [0u8; 22547];
+    // Four lists, a line each: 17 bytes at most for the name, 44 for each of 512 entries, and 2 for the end.
+    let mut out = [0u8; 90188];
+    // 64 areas of each kind, three words to an area.
     let mut areas = [0u64; 384];
     let mut words = [0u64; 4096];
     run(&mut chunk, &mut line, &mut out, &mut areas, &mut words);
@@ -37,10 +38,10 @@ fn main() {
 
 // A proved loop has to end, and nothing says that input does. So the loop counts its turns down, from a number that no run uses up.
 fn run(chunk: &mut [u8], line: &mut [u8], out: &mut [u8], areas: &mut [u64], words: &mut [u64])
-    requires { ⌜ (lineRoom ≤ length (now out)) × (384 ≤ length (now areas)) ⌝ }
+    requires { ⌜ (128 < length (now line)) × (replyRoom ≤ length (now out)) × (384 ≤ length (now areas)) ⌝ }
 {
     let mut reached = Reached {
-        bench: answers::begin(),
+        bench: bench_answers::begin(),
         held: 0,
     };
     let mut turns = u64::MAX;
@@ -54,7 +55,7 @@ fn run(chunk: &mut [u8], line: &mut [u8], out: &mut [u8], areas: &mut [u64], wor
     }
     let held = reached.held;
     if held != 0 {
-        answers::answer(reached.bench, &line[..held], out, areas, words);
+        answer_line(reached.bench, &line[..held], out, areas, words);
     }
 }
 
@@ -77,6 +78,7 @@ fn answer_lines(
 ) -> Reached
     requires { ⌜ ReadyAt reached (now line) (now out) (now areas) ⌝ }
     ensures { λ r. ⌜ ReadyAt r (now (line .exit)) (now (out .exit)) (now (areas .exit)) ⌝ }
+    ensures { λ r. ⌜ AnswersLines (now (text .entry)) reached (now (line .entry)) (now (areas .entry)) (now (words .entry)) r (now (line .exit)) (now (areas .exit)) (now (words .exit)) ⌝ }
 {
     let mut bench = reached.bench;
     let mut held = reached.held;
@@ -84,11 +86,22 @@ fn answer_lines(
     let mut end = bytes::scan::find(text, 0, text.len(), b'\n');
     while end < text.len() {
         held = bench_lines::hold(line, held, &text[at..end]);
-        bench = answers::answer(bench, &line[..held], out, areas, words);
+        bench = answer_line(bench, &line[..held], out, areas, words);
         held = 0;
         at = end + 1;
         end = bytes::scan::find(text, at, text.len(), b'\n');
     }
     held = bench_lines::hold(line, held, &text[at..]);
     Reached { bench, held }
+}
+
+// Prints what the line prints, before the next line is looked at.
+fn answer_line(b: Bench, line: &[u8], out: &mut [u8], areas: &mut [u64], words: &mut [u64]) -> Bench
+    requires { ⌜ Ready b (now out) (now areas) ⌝ }
+    ensures { λ r. ⌜ AnswersLine (now (line .entry)) b (now (areas .entry)) (now (words .entry)) r (now (out .exit)) (now (areas .exit)) (now (words .exit)) ⌝ }
+{
+    let reply = bench_answers::answer(b, line, out, areas, words);
+    let len = reply.len;
+    io::write_all(STDOUT_FILENO, &out[..len]);
+    reply.bench
 }

@@ -1,9 +1,11 @@
 -- `run`: the turns fall, and the bench is ready after each.
-use mathlib.Core.Path.{_≡_, refl, ap}
+use mathlib.Core.Path.{_≡_, refl, ap, subst⁻¹}
 use mathlib.Core.Logic.{⊎-elim}
 use lib.ListN.{length, length-take}
-use Rattle.framebench.specs.Ready.{ReadyAt}
-use Rattle.framebench.proofs.Room.{begins}
+use Rattle.bench_answers.specs.Replies.{Ready}
+use Rattle.bench_answers.specs.declared.Bench.{Bench}
+use Rattle.bench_answers.proofs.Replying.{first-ready}
+use Rattle.framebench.specs.Reached.{ReadyAt}
 use native.Mathlib.Omega.{arith}
 use Rattle.framebench.proofs.run.Statement.{statement}
 use Rattle.framebench.proofs.run.Tie as tie
@@ -22,7 +24,8 @@ begin-requires c κs = tt
 loop-holds : tie.Need-loop-holds Inv-loop μ-loop
 loop-holds c =
     let s = c .before .before .before .before .before .before in
-    (refl, refl, refl, refl, refl, begins (c .begin .ensures) (s .pre .0) (s .pre .1))
+    let ready = subst⁻¹ (λ (b : Bench). Ready b (s .args .out .now) (s .args .areas .now)) (c .begin .ensures) (first-ready (s .pre .1) (s .pre .2)) in
+    (refl, refl, refl, refl, refl, record { ready = ready; held-in = omega arith; wide = s .pre .0 })
 
 read-some-requires : tie.Need-read-some-requires Inv-loop μ-loop
 read-some-requires c κs = tt
@@ -46,16 +49,16 @@ loop-again : tie.Need-loop-again Inv-loop μ-loop
 loop-again c =
     let n = c .before .before .before .before .before .before .before .before in
     let v = n .before .before .before .before .before .before .before .before .before .before .before .before .loop .inv in
-    (omega (arith, v .0), omega (arith, v .1), omega (arith, v .2), omega (arith, v .3), omega (arith, v .4), n .answer-lines .ensures)
+    (omega (arith, v .0), omega (arith, v .1), omega (arith, v .2), omega (arith, v .3), omega (arith, v .4), n .answer-lines .ensures .0)
 
-slice-reshare-prefix-answer : tie.Need-slice-reshare-prefix-answer Inv-loop μ-loop
-slice-reshare-prefix-answer c = c .before .before .loop .inv .5 .held-in
+slice-reshare-prefix-answer-line : tie.Need-slice-reshare-prefix-answer-line Inv-loop μ-loop
+slice-reshare-prefix-answer-line c = c .before .before .loop .inv .5 .held-in
 
-slice-aggregate-answer : tie.Need-slice-aggregate-answer Inv-loop μ-loop
-slice-aggregate-answer c = simp length-take (omega (arith, c .before .before .before .loop .inv .5 .held-in))
+slice-aggregate-answer-line : tie.Need-slice-aggregate-answer-line Inv-loop μ-loop
+slice-aggregate-answer-line c = simp length-take (omega (arith, c .before .before .before .loop .inv .5 .held-in))
 
-answer-requires : tie.Need-answer-requires Inv-loop μ-loop
-answer-requires c κs = c .before .before .before .before .before .before .loop .inv .5 .ready
+answer-line-requires : tie.Need-answer-line-requires Inv-loop μ-loop
+answer-line-requires c κs = c .before .before .before .before .before .before .loop .inv .5 .ready
 
 -- the loop is left by its test, or after a read
 chunk-kept : (l : tie.Left-loop Inv-loop μ-loop) → length (l .loop-test .chunk) ≡ length (l .before .before .before .before .before .before .before .before .args .chunk .now)
@@ -114,9 +117,9 @@ run-spec =
     sub-turns
     loop-less
     loop-again
-    slice-reshare-prefix-answer
-    slice-aggregate-answer
-    answer-requires
+    slice-reshare-prefix-answer-line
+    slice-aggregate-answer-line
+    answer-line-requires
     same-length
     same-length-2
     same-length-3

@@ -1,14 +1,13 @@
--- `answers::answer`: each command does what it says, and leaves the bench ready for the next.
+-- `answer`: each command does what it says, and leaves the bench ready for the next.
 use native.Mathlib.Omega.{arith}
-use mathlib.Core.Path.{refl, sym, ap, subst, _∙_}
+use mathlib.Core.Path.{sym, subst, _∙_}
 use Rattle.memory_structs.specs.declared.range.FrameRange.{FrameRange}
 use Rattle.model.specs.Calls.{returnCall, Gives}
-use Rattle.framebench.specs.declared.answers.Bench.{Bench}
-use Rattle.framebench.specs.Obeys.{Obeys}
-use Rattle.framebench.proofs.Room.{ready-on, makes}
+use Rattle.bench_answers.specs.Answered.{answered}
+use Rattle.bench_answers.proofs.Replying.{says, tells}
 use borrow.Author.Needs.{needs}
-use Rattle.framebench.proofs.answers.answer.Statement.{statement}
-use Rattle.framebench.proofs.answers.answer.Tie as tie
+use Rattle.bench_answers.proofs.answer.Statement.{statement}
+use Rattle.bench_answers.proofs.answer.Tie as tie
 
 read-command-requires : tie.Need-read-command-requires
 read-command-requires c κs = search needs
@@ -80,36 +79,25 @@ list-requires c κs = search needs
 enum-told-4 : tie.Need-enum-told-4
 enum-told-4 c = search needs
 
-bad-requires : tie.Need-bad-requires
-bad-requires c κs = search needs
+slice-aggregate-say : tie.Need-slice-aggregate-say
+slice-aggregate-say c = search needs
+
+say-requires : tie.Need-say-requires
+say-requires c κs = search needs
 
 same-length : tie.Need-same-length
 same-length c = search needs
 
-returns : tie.Need-returns
-unfolding Obeys
-returns c =
-    let p = c .before .before in
-    let e = p .before .before .before in
-    let m = e .before .before in
-    let s = m .before .before .before .before .before in (
-      record { printing = s .pre .printing; collecting = p .collect .ensures .0 },
-      rw (sym (m .read-command .ensures) ∙ e .start .given .1) (p .collect .ensures .1, refl),
-    )
-
 same-length-2 : tie.Need-same-length-2
 same-length-2 c = search needs
 
-returns-2 : tie.Need-returns-2
-unfolding Obeys
-returns-2 c =
-    let p = c .before .before in
-    let e = p .before .before .before in
+returns : tie.Need-returns
+unfolding answered
+returns c =
+    let e = c .before .before .before .before .before .before .before .before in
     let m = e .before .before in
-    let s = m .before .before .before .before .before in (
-      record { printing = s .pre .printing; collecting = p .collect2 .ensures .0 },
-      rw (sym (m .read-command .ensures) ∙ e .start2 .given .1) (p .collect2 .ensures .1, refl),
-    )
+    let s = m .before .before .before .before .before in
+    rw (sym (m .read-command .ensures) ∙ e .start .given .1) (c .before .before .before .before .collect .ensures (s .args .words .now))
 
 same-length-3 : tie.Need-same-length-3
 same-length-3 c = search needs
@@ -117,17 +105,16 @@ same-length-3 c = search needs
 same-length-4 : tie.Need-same-length-4
 same-length-4 c = search needs
 
-same-length-5 : tie.Need-same-length-5
-same-length-5 c = search needs
-
-returns-3 : tie.Need-returns-3
-unfolding Obeys
-returns-3 c =
-    let p = c .before .before in
-    let e = p .before .before .before .before in
+returns-2 : tie.Need-returns-2
+unfolding answered
+returns-2 c =
+    let e = c .before .before .before .before .before .before .before .before in
     let m = e .before .before in
     let s = m .before .before .before .before .before in
-    (ready-on (p .boot .ensures .counts) (omega arith) (s .pre), rw (sym (m .read-command .ensures) ∙ e .enum-told .given .1) (p .boot .ensures, refl))
+    rw (sym (m .read-command .ensures) ∙ e .start2 .given .1) (c .before .before .before .before .collect2 .ensures (s .args .words .now))
+
+same-length-5 : tie.Need-same-length-5
+same-length-5 c = search needs
 
 same-length-6 : tie.Need-same-length-6
 same-length-6 c = search needs
@@ -135,15 +122,13 @@ same-length-6 c = search needs
 same-length-7 : tie.Need-same-length-7
 same-length-7 c = search needs
 
-returns-4 : tie.Need-returns-4
-unfolding Obeys
-returns-4 c =
-    let t = c .before .before in
-    let e = t .before .before .before .before .before .before in
+returns-3 : tie.Need-returns-3
+unfolding answered
+returns-3 c =
+    let e = c .before .before .before .before .before .before in
     let m = e .before .before in
     let s = m .before .before .before .before .before in
-    let made = makes (t .before .before .before .convert-frame-allocator-to-heap-based .ensures) (t .tell .ensures) in
-    (ready-on (made .counts) (omega arith) (s .pre), rw (sym (m .read-command .ensures) ∙ e .enum-told2 .given .1) (made, refl))
+    rw (sym (m .read-command .ensures) ∙ e .enum-told .given .1) (c .before .before .boot .ensures)
 
 same-length-8 : tie.Need-same-length-8
 same-length-8 c = search needs
@@ -151,15 +136,13 @@ same-length-8 c = search needs
 same-length-9 : tie.Need-same-length-9
 same-length-9 c = search needs
 
-returns-5 : tie.Need-returns-5
-unfolding Obeys
-returns-5 c =
-    let t = c .before .before in
-    let e = t .before .before .before .before .before .before .before in
+returns-4 : tie.Need-returns-4
+unfolding answered
+returns-4 c =
+    let e = c .before .before .before .before .before .before .before .before in
     let m = e .before .before in
     let s = m .before .before .before .before .before in
-    let made = makes (t .before .before .before .allocate-frames .ensures) (t .tell2 .ensures) in
-    (ready-on (made .counts) (omega arith) (s .pre), rw (sym (m .read-command .ensures) ∙ e .n .given .1) (made, refl))
+    rw (sym (m .read-command .ensures) ∙ e .enum-told2 .given .1) (tells (omega arith) (s .pre) (c .before .before .before .before .before .convert-frame-allocator-to-heap-based .ensures) (c .before .before .tell .ensures))
 
 same-length-10 : tie.Need-same-length-10
 same-length-10 c = search needs
@@ -167,15 +150,13 @@ same-length-10 c = search needs
 same-length-11 : tie.Need-same-length-11
 same-length-11 c = search needs
 
-returns-6 : tie.Need-returns-6
-unfolding Obeys
-returns-6 c =
-    let t = c .before .before in
-    let e = t .before .before .before .before .before .before .before in
+returns-5 : tie.Need-returns-5
+unfolding answered
+returns-5 c =
+    let e = c .before .before .before .before .before .before .before .before .before in
     let m = e .before .before in
     let s = m .before .before .before .before .before in
-    let made = makes (t .before .before .before .allocate-frames-at .ensures) (t .tell3 .ensures) in
-    (ready-on (made .counts) (omega arith) (s .pre), rw (sym (m .read-command .ensures) ∙ e .frame .given .1) (made, refl))
+    rw (sym (m .read-command .ensures) ∙ e .n .given .1) (tells (omega arith) (s .pre) (c .before .before .before .before .before .allocate-frames .ensures) (c .before .before .tell2 .ensures))
 
 same-length-12 : tie.Need-same-length-12
 same-length-12 c = search needs
@@ -183,16 +164,13 @@ same-length-12 c = search needs
 same-length-13 : tie.Need-same-length-13
 same-length-13 c = search needs
 
-returns-7 : tie.Need-returns-7
-unfolding Obeys
-returns-7 c =
-    let t = c .before .before in
-    let e = t .before .before .before .before .before .before .before .before in
+returns-6 : tie.Need-returns-6
+unfolding answered
+returns-6 c =
+    let e = c .before .before .before .before .before .before .before .before .before in
     let m = e .before .before in
     let s = m .before .before .before .before .before in
-    let g = t .before .before .before in
-    let made = makes (subst (λ (x : FrameRange). Gives (returnCall x) (s .args .b .allocator) (s .args .words .now) (g .return-frames .result) (g .return-frames .last .1 .0)) (g .before .new .ensures) (g .return-frames .ensures)) (t .tell4 .ensures) in
-    (ready-on (made .counts) (omega arith) (s .pre), rw (sym (m .read-command .ensures) ∙ e .start3 .given .1) (made, refl))
+    rw (sym (m .read-command .ensures) ∙ e .frame .given .1) (tells (omega arith) (s .pre) (c .before .before .before .before .before .allocate-frames-at .ensures) (c .before .before .tell3 .ensures))
 
 same-length-14 : tie.Need-same-length-14
 same-length-14 c = search needs
@@ -200,27 +178,40 @@ same-length-14 c = search needs
 same-length-15 : tie.Need-same-length-15
 same-length-15 c = search needs
 
-returns-8 : tie.Need-returns-8
-unfolding Obeys
-returns-8 c =
-    let p = c .before .before in
-    let e = p .before .before .before in
+returns-7 : tie.Need-returns-7
+unfolding answered
+returns-7 c =
+    let e = c .before .before .before .before .before .before .before .before .before .before in
     let m = e .before .before in
-    let s = m .before .before .before .before .before in (
-      ready-on (ap (λ (x : Bench). x .counts) (p .list .ensures)) (omega arith) (s .pre),
-      rw (sym (m .read-command .ensures) ∙ e .enum-told3 .given .1) (p .list .ensures, refl, refl),
-    )
+    let s = m .before .before .before .before .before in
+    let g = c .before .before .before .before .before in
+    let given = subst (λ (x : FrameRange). Gives (returnCall x) (s .args .b .allocator) (s .args .words .now) (g .return-frames .result) (g .return-frames .last .1 .0)) (g .before .new .ensures) (g .return-frames .ensures) in
+    rw (sym (m .read-command .ensures) ∙ e .start3 .given .1) (tells (omega arith) (s .pre) given (c .before .before .tell4 .ensures))
+
+same-length-16 : tie.Need-same-length-16
+same-length-16 c = search needs
+
+same-length-17 : tie.Need-same-length-17
+same-length-17 c = search needs
+
+returns-8 : tie.Need-returns-8
+unfolding answered
+returns-8 c =
+    let e = c .before .before .before .before .before in
+    let m = e .before .before in
+    let s = m .before .before .before .before .before in
+    rw (sym (m .read-command .ensures) ∙ e .enum-told3 .given .1) (says (omega arith) (s .pre) (c .before .before .list .ensures))
+
+same-length-18 : tie.Need-same-length-18
+same-length-18 c = search needs
 
 returns-9 : tie.Need-returns-9
-unfolding Obeys
+unfolding answered
 returns-9 c =
-    let p = c in
-    let e = p .before in
+    let e = c .before .before .before .before .before in
     let m = e .before .before in
-    let s = m .before .before .before .before .before in (
-      ready-on (ap (λ (x : Bench). x .counts) (p .bad .ensures)) (omega arith) (s .pre),
-      rw (sym (m .read-command .ensures) ∙ e .enum-told4 .given .1) (p .bad .ensures, refl, refl),
-    )
+    let s = m .before .before .before .before .before in
+    rw (sym (m .read-command .ensures) ∙ e .enum-told4 .given .1) (says (omega arith) (s .pre) (c .before .before .say .ensures))
 
 pub answer-spec : {M : Type 1} → statement M
 answer-spec =
@@ -249,28 +240,32 @@ answer-spec =
     enum-told-3
     list-requires
     enum-told-4
-    bad-requires
+    slice-aggregate-say
+    say-requires
     same-length
-    returns
     same-length-2
-    returns-2
+    returns
     same-length-3
     same-length-4
+    returns-2
     same-length-5
-    returns-3
     same-length-6
     same-length-7
-    returns-4
+    returns-3
     same-length-8
     same-length-9
-    returns-5
+    returns-4
     same-length-10
     same-length-11
-    returns-6
+    returns-5
     same-length-12
     same-length-13
-    returns-7
+    returns-6
     same-length-14
     same-length-15
+    returns-7
+    same-length-16
+    same-length-17
     returns-8
+    same-length-18
     returns-9)

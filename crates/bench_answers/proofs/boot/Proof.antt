@@ -1,14 +1,14 @@
--- `answers::boot` lends the words of the areas.
+-- `boot` lends the words of the areas.
+use native.Mathlib.Omega.{arith}
 use Prim.Native.Nat.{ℕ}
 use mathlib.Core.Path.{subst}
 use lib.ListN.{take, length-take}
 use Rattle.model.specs.Calls.{bootCall, Gives}
 use Rattle.areas.specs.Areas.{areasIn}
-use Rattle.framebench.proofs.Room.{makes}
-use native.Mathlib.Omega.{arith}
+use Rattle.bench_answers.proofs.Replying.{tells}
 use borrow.Author.Needs.{needs}
-use Rattle.framebench.proofs.answers.boot.Statement.{statement}
-use Rattle.framebench.proofs.answers.boot.Tie as tie
+use Rattle.bench_answers.proofs.boot.Statement.{statement}
+use Rattle.bench_answers.proofs.boot.Tie as tie
 
 words-used-requires : tie.Need-words-used-requires
 words-used-requires c κs = search needs
@@ -33,8 +33,11 @@ returns c =
     let t = c .before .before in
     let i = t .before in
     let u = i .before .before .before in
-    let a = u .before .before .before .before .args in
-    makes (subst (λ (n : ℕ). Gives (bootCall (areasIn (take n (a .areas .now)))) (a .b .allocator) (a .words .now) (i .init .result) (a .words .now)) (u .words-used .ensures) (i .init .ensures)) (t .tell .ensures)
+    let s = u .before .before .before .before in
+    let a = s .args in
+    tells (omega arith) (s .pre)
+    (subst (λ (n : ℕ). Gives (bootCall (areasIn (take n (a .areas .now)))) (a .b .allocator) (a .words .now) (i .init .result) (a .words .now)) (u .words-used .ensures) (i .init .ensures))
+    (t .tell .ensures)
 
 pub boot-spec : {M : Type 1} → statement M
 boot-spec =
