@@ -1,2 +1,3 @@
 pub mod Answered
 pub mod Replies
+pub mod Example
