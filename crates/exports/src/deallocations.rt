@@ -1,19 +1,20 @@
 // Returns: document 01, "Return". Frames are named by their numbers, not by their addresses.
 ghost use Rattle.memory_structs.specs.Range.{range};
 ghost use Rattle.model.specs.Calls.{Gives, returnCall};
+ghost use Rattle.frame_allocator.specs.InPlace.{changed};
 use memory_structs::FrameRange;
-use model::Called;
+use model::Answer;
 use model::FrameAllocator;
 
 // The frames from `start` to `end` are free again.
 #[no_mangle]
 pub extern "C" fn likhmout_return_frames(
-    allocator: FrameAllocator,
+    a: &mut FrameAllocator,
     words: &mut [u64],
     start: u64,
     end: u64,
-) -> Called
-    ensures { λ r. ⌜ Gives (returnCall (range start end)) allocator (now (words .entry)) r (now (words .exit)) ⌝ }
+) -> Answer
+    ensures { λ r. ⌜ Gives (returnCall (range start end)) (now (a .entry)) (now (words .entry)) (changed r (now (a .exit))) (now (words .exit)) ⌝ }
 {
-    returns::return_frames(allocator, words, FrameRange::new(start, end))
+    frame_allocator::return_frames(a, words, FrameRange { start, end })
 }

@@ -1,4 +1,5 @@
-// Questions: document 01, "kind of a range", "free total", "held list". Only the held list's buffer is written.
+// Questions: document 01, "kind of a range", "free total", "held list". The record is lent to read; only the held list's buffer is
+// written.
 ghost use Rattle.memory_structs.specs.Range.{range};
 ghost use Rattle.model.specs.Calls.{kindCall, totalCall, Answers, ListsHeld};
 ghost use Rattle.areas.specs.Areas.{kindOfWord};
@@ -8,34 +9,34 @@ use model::FrameAllocator;
 
 // count: 1 where any frame of the range is in a reserved region, else 0.
 #[no_mangle]
-pub extern "C" fn likhmout_kind(
-    allocator: FrameAllocator,
+pub extern "C" fn likhmout_kind_of_range(
+    a: &FrameAllocator,
     words: &[u64],
     start: u64,
     end: u64,
 ) -> Answer
-    ensures { λ r. ⌜ Answers (kindCall (range start end)) allocator (now (words .entry)) r ⌝ }
+    ensures { λ r. ⌜ Answers (kindCall (range start end)) (now (a .entry)) (now (words .entry)) r ⌝ }
 {
-    queries::kind_of_range(allocator, words, FrameRange::new(start, end))
+    frame_allocator::kind_of_range(*a, words, FrameRange { start, end })
 }
 
 // count: how many frames are free. Kind 0 is general, any other number reserved.
 #[no_mangle]
-pub extern "C" fn likhmout_free_total(allocator: FrameAllocator, words: &[u64], kind: u64) -> Answer
-    ensures { λ r. ⌜ Answers (totalCall (kindOfWord kind)) allocator (now (words .entry)) r ⌝ }
+pub extern "C" fn likhmout_free_total(a: &FrameAllocator, words: &[u64], kind: u64) -> Answer
+    ensures { λ r. ⌜ Answers (totalCall (kindOfWord kind)) (now (a .entry)) (now (words .entry)) r ⌝ }
 {
-    queries::free_total(allocator, words, areas::kind_of(kind))
+    frame_allocator::free_total(*a, words, areas::kind_of(kind))
 }
 
 // count: how many runs are held. They are at the beginning of the buffer, as first and last frame, in an order that document 01 leaves
 // open. A buffer below 2,048 words is 3.
 #[no_mangle]
 pub extern "C" fn likhmout_held_list(
-    allocator: FrameAllocator,
+    a: &FrameAllocator,
     words: &[u64],
     buffer: &mut [u64],
 ) -> Answer
-    ensures { λ r. ⌜ ListsHeld allocator (now (words .entry)) (now (buffer .entry)) r (now (buffer .exit)) ⌝ }
+    ensures { λ r. ⌜ ListsHeld (now (a .entry)) (now (words .entry)) (now (buffer .entry)) r (now (buffer .exit)) ⌝ }
 {
-    queries::held_list(allocator, words, buffer)
+    frame_allocator::held_list(*a, words, buffer)
 }

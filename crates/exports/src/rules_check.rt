@@ -6,8 +6,8 @@ use model::FrameAllocator;
 
 // 0 where the record and its workspace keep the rules, 3 or 11 where they do not.
 #[no_mangle]
-pub extern "C" fn likhmout_check(allocator: FrameAllocator, words: &[u64]) -> u64
-    ensures { λ r. ⌜ r ≡ checked allocator (now (words .entry)) ⌝ }
+pub extern "C" fn likhmout_check(a: &FrameAllocator, words: &[u64]) -> u64
+    ensures { λ r. ⌜ r ≡ checked (now (a .entry)) (now (words .entry)) ⌝ }
 {
-    rules::check(allocator, words)
+    rules::check(*a, words)
 }

@@ -1,13 +1,17 @@
 // Sort: document 01, "sort". From early form it writes the first 4,096 words; from then on the lists are there, and the words must be
 // kept.
 ghost use Rattle.model.specs.Calls.{Gives, sortCall};
-use model::Called;
+ghost use Rattle.frame_allocator.specs.InPlace.{changed};
+use model::Answer;
 use model::FrameAllocator;
 
 // From early to sorted form; "A sort in sorted form changes nothing."
 #[no_mangle]
-pub extern "C" fn likhmout_sort(allocator: FrameAllocator, words: &mut [u64]) -> Called
-    ensures { λ r. ⌜ Gives sortCall allocator (now (words .entry)) r (now (words .exit)) ⌝ }
+pub extern "C" fn likhmout_convert_frame_allocator_to_heap_based(
+    a: &mut FrameAllocator,
+    words: &mut [u64],
+) -> Answer
+    ensures { λ r. ⌜ Gives sortCall (now (a .entry)) (now (words .entry)) (changed r (now (a .exit))) (now (words .exit)) ⌝ }
 {
-    sort::convert_frame_allocator_to_heap_based(allocator, words)
+    frame_allocator::convert_frame_allocator_to_heap_based(a, words)
 }
