@@ -55,7 +55,7 @@ pub fn answer(call: &Call, stored: &mut Stored) -> Answer {
 }
 
 /// Document 01 leaves the order of the runs open.
-fn sort_runs(buffer: &mut [u64], runs: u64) {
+pub fn sort_runs(buffer: &mut [u64], runs: u64) {
     let (pairs, _) = buffer.as_chunks_mut::<2>();
     let runs = pairs.len().min(runs as usize);
     pairs[..runs].sort();
@@ -79,7 +79,7 @@ pub fn boot_in_disguise(boot: &Boot, before: FrameAllocator, words: &[u64]) -> C
 }
 
 /// Three words to an area: its two numbers and its kind.
-fn encoded(boot: &Boot) -> Vec<u64> {
+pub fn encoded(boot: &Boot) -> Vec<u64> {
     boot.areas.iter().flat_map(|area| [area.first, area.second, area.reserved.into()]).collect()
 }
 
