@@ -1,8 +1,8 @@
 /* Likhmout: the physical frame allocator of Theseus, proved, for C and C++ programs on x86-64.
  *
  * `rt staticlib exports` writes target/staticlib/libexports.a, which has every function below. It needs memcpy and memset, and
- * nothing else. The functions are those of crates/exports/src, where the contract of each says what it is proved to do. "Document 01"
- * is the specification.
+ * nothing else; it is compiled for the System V ABI, with SSE2 registers and a red zone. The functions are those of
+ * crates/exports/src, where the contract of each says what it is proved to do. "Document 01" is the specification.
  *
  * A frame is 4,096 bytes of physical memory, named by its number. The record (likhmout_frame_allocator) and a workspace of at least
  * 4,096 words are the allocator; the program owns both, and hands both to every call. Nothing else is kept between calls: two
