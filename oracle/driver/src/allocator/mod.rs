@@ -6,5 +6,6 @@ pub mod numbers;
 pub mod ours;
 pub mod panics;
 pub mod record;
+pub mod run;
 pub mod state;
 pub mod theirs;

@@ -7,29 +7,29 @@ use crate::frames::Range;
 
 #[rustfmt::skip]
 extern "C" {
-    fn likhmout_boot(a: FrameAllocator, areas: *const u64, areas_len: usize, words: *const u64, len: usize) -> Called;
-    fn likhmout_boot_bytes(a: FrameAllocator, areas: *const u64, areas_len: usize, words: *const u64, len: usize) -> Called;
-    fn likhmout_sort(a: FrameAllocator, words: *mut u64, len: usize) -> Called;
-    fn likhmout_allocate_frames(a: FrameAllocator, words: *mut u64, len: usize, count: u64) -> Called;
-    fn likhmout_allocate_frames_by_bytes(a: FrameAllocator, words: *mut u64, len: usize, bytes: u64) -> Called;
-    fn likhmout_allocate_frames_at(a: FrameAllocator, words: *mut u64, len: usize, frame: u64, count: u64) -> Called;
-    fn likhmout_allocate_frames_by_bytes_at(a: FrameAllocator, words: *mut u64, len: usize, address: u64, bytes: u64) -> Called;
-    fn likhmout_allocate_general_frames_at(a: FrameAllocator, words: *mut u64, len: usize, frame: u64, count: u64) -> Called;
-    fn likhmout_kind(a: FrameAllocator, words: *const u64, len: usize, start: u64, end: u64) -> Answer;
-    fn likhmout_free_total(a: FrameAllocator, words: *const u64, len: usize, kind: u64) -> Answer;
-    fn likhmout_held_list(a: FrameAllocator, words: *const u64, len: usize, buffer: *mut u64, buffer_len: usize) -> Answer;
-    fn likhmout_return_frames(a: FrameAllocator, words: *mut u64, len: usize, start: u64, end: u64) -> Called;
+    fn likhmout_init(a: *mut FrameAllocator, areas: *const u64, areas_len: usize, words: *const u64, len: usize) -> Answer;
+    fn likhmout_init_from_bytes(a: *mut FrameAllocator, areas: *const u64, areas_len: usize, words: *const u64, len: usize) -> Answer;
+    fn likhmout_convert_frame_allocator_to_heap_based(a: *mut FrameAllocator, words: *mut u64, len: usize) -> Answer;
+    fn likhmout_allocate_frames(a: *mut FrameAllocator, words: *mut u64, len: usize, count: u64) -> Answer;
+    fn likhmout_allocate_frames_by_bytes(a: *mut FrameAllocator, words: *mut u64, len: usize, bytes: u64) -> Answer;
+    fn likhmout_allocate_frames_at(a: *mut FrameAllocator, words: *mut u64, len: usize, frame: u64, count: u64) -> Answer;
+    fn likhmout_allocate_frames_by_bytes_at(a: *mut FrameAllocator, words: *mut u64, len: usize, address: u64, bytes: u64) -> Answer;
+    fn likhmout_allocate_general_frames_at(a: *mut FrameAllocator, words: *mut u64, len: usize, frame: u64, count: u64) -> Answer;
+    fn likhmout_return_frames(a: *mut FrameAllocator, words: *mut u64, len: usize, start: u64, end: u64) -> Answer;
+    fn likhmout_kind_of_range(a: *const FrameAllocator, words: *const u64, len: usize, start: u64, end: u64) -> Answer;
+    fn likhmout_free_total(a: *const FrameAllocator, words: *const u64, len: usize, kind: u64) -> Answer;
+    fn likhmout_held_list(a: *const FrameAllocator, words: *const u64, len: usize, buffer: *mut u64, buffer_len: usize) -> Answer;
 }
 
-/// Makes the call, and leaves the record that it hands back.
+/// Makes the call on the record where it lies.
 pub fn answer(call: &Call, stored: &mut Stored) -> Answer {
-    let (a, words, len) = (stored.allocator, stored.words.as_mut_ptr(), stored.words.len());
-    let asked = |answer: Answer| Called { answer, allocator: a };
-    // SAFETY: the library reads and writes the words, and no more than their length.
-    let called = unsafe {
+    let Stored { allocator: a, words, buffer } = stored;
+    let (words_read, words, len) = (words.as_ptr(), words.as_mut_ptr(), words.len());
+    // SAFETY: the library reads and writes the record and the words, and no more than their length.
+    unsafe {
         match *call {
-            Call::Boot(ref boot) => self::boot(boot, a, &stored.words),
-            Call::Sort => likhmout_sort(a, words, len),
+            Call::Boot(ref boot) => init(boot.unit, a, &encoded(boot), words_read, len),
+            Call::Sort => likhmout_convert_frame_allocator_to_heap_based(a, words, len),
             Call::Count(count) => likhmout_allocate_frames(a, words, len, count),
             Call::CountBytes(bytes) => likhmout_allocate_frames_by_bytes(a, words, len, bytes),
             Call::At(frame, count) => likhmout_allocate_frames_at(a, words, len, frame, count),
@@ -40,28 +40,22 @@ pub fn answer(call: &Call, stored: &mut Stored) -> Answer {
                 likhmout_allocate_general_frames_at(a, words, len, frame, count)
             }
             Call::Return(Range { start, end }) => likhmout_return_frames(a, words, len, start, end),
-            Call::Kind(Range { start, end }) => asked(likhmout_kind(a, words, len, start, end)),
-            Call::Total(reserved) => asked(likhmout_free_total(a, words, len, reserved.into())),
-            Call::Held(buffer) => asked(held_list(buffer, stored)),
+            Call::Kind(Range { start, end }) => {
+                likhmout_kind_of_range(a, words_read, len, start, end)
+            }
+            Call::Total(reserved) => likhmout_free_total(a, words_read, len, reserved.into()),
+            Call::Held(size) => {
+                *buffer = vec![UNREAD[0]; size];
+                let answer = likhmout_held_list(a, words_read, len, buffer.as_mut_ptr(), size);
+                sort_runs(buffer, answer.count);
+                answer
+            }
         }
-    };
-    stored.allocator = called.allocator;
-    called.answer
-}
-
-/// The held list, in a buffer of so many words, which hold marks before.
-fn held_list(buffer_len: usize, stored: &mut Stored) -> Answer {
-    let (a, words, len) = (stored.allocator, stored.words.as_ptr(), stored.words.len());
-    stored.buffer = vec![UNREAD[0]; buffer_len];
-    // SAFETY: the library reads the words and writes the buffer, and no more than their lengths.
-    let answer =
-        unsafe { likhmout_held_list(a, words, len, stored.buffer.as_mut_ptr(), buffer_len) };
-    sort_runs(&mut stored.buffer, answer.count);
-    answer
+    }
 }
 
 /// Document 01 leaves the order of the runs open.
-fn sort_runs(buffer: &mut [u64], runs: u64) {
+pub fn sort_runs(buffer: &mut [u64], runs: u64) {
     let (pairs, _) = buffer.as_chunks_mut::<2>();
     let runs = pairs.len().min(runs as usize);
     pairs[..runs].sort();
@@ -85,17 +79,27 @@ pub fn boot_in_disguise(boot: &Boot, before: FrameAllocator, words: &[u64]) -> C
 }
 
 /// Three words to an area: its two numbers and its kind.
-fn encoded(boot: &Boot) -> Vec<u64> {
+pub fn encoded(boot: &Boot) -> Vec<u64> {
     boot.areas.iter().flat_map(|area| [area.first, area.second, area.reserved.into()]).collect()
 }
 
 fn boot_areas(unit: Unit, before: FrameAllocator, areas: &[u64], words: &[u64]) -> Called {
-    let (areas, areas_len, words, len) = (areas.as_ptr(), areas.len(), words.as_ptr(), words.len());
-    // SAFETY: the library only reads the areas and the words, and no more than their lengths.
-    unsafe {
-        match unit {
-            Unit::Frames => likhmout_boot(before, areas, areas_len, words, len),
-            Unit::Bytes => likhmout_boot_bytes(before, areas, areas_len, words, len),
-        }
+    let mut allocator = before;
+    // SAFETY: the library only reads the words, and no more than their length.
+    let answer = unsafe { init(unit, &mut allocator, areas, words.as_ptr(), words.len()) };
+    Called { answer, allocator }
+}
+
+/// The library reads so many words, and writes none of them.
+unsafe fn init(
+    unit: Unit,
+    a: &mut FrameAllocator,
+    areas: &[u64],
+    words: *const u64,
+    len: usize,
+) -> Answer {
+    match unit {
+        Unit::Frames => likhmout_init(a, areas.as_ptr(), areas.len(), words, len),
+        Unit::Bytes => likhmout_init_from_bytes(a, areas.as_ptr(), areas.len(), words, len),
     }
 }

@@ -37,7 +37,7 @@ pub struct Answer {
     pub count: u64,
 }
 
-#[repr(C)]
+/// What a boot answers, and the record after it.
 #[derive(Clone, Copy, PartialEq, Eq)]
 pub struct Called {
     pub answer: Answer,

@@ -5,11 +5,12 @@ use super::generate::Plan;
 use super::judge::Judgement;
 use super::small;
 use crate::allocator::call::Call;
-use crate::allocator::record::Stored;
+use crate::allocator::record::{Answer, Stored};
 use crate::allocator::state::State;
-use crate::allocator::{ours, theirs};
+use crate::allocator::{ours, run, theirs};
 use crate::random::Random;
 use crate::verdict;
+use std::mem;
 
 /// So many differences are printed in full; the others are only counted.
 const SHOWN: u64 = 20;
@@ -41,13 +42,13 @@ struct Comparison {
 
 impl Comparison {
     /// A list of calls on a fresh record; each may be chosen by the lists as they are. It ends at its
-    /// first difference. How many calls were made.
+    /// first difference. Then the same list by runs. How many calls were made.
     fn add_list(&mut self, mut next: impl FnMut(&State) -> Option<Call>) -> u64 {
         theirs::empty_lists(false);
         let mut state = State::empty(false);
         let mut ours = Stored::new(&state);
         let mut expected = ours.clone();
-        let mut made = Vec::new();
+        let (mut made, mut answers) = (Vec::new(), Vec::new());
         self.counts.add_list();
         while let Some(call) = next(&state) {
             let judgement = Judgement::of(&call, &state);
@@ -55,6 +56,7 @@ impl Comparison {
             let answer = ours::answer(&call, &mut ours);
             judgement.store(&call, &mut expected);
             made.push(call);
+            answers.push(answer);
             if answer != judgement.answer || ours != expected {
                 self.differences += 1;
                 if self.differences <= SHOWN {
@@ -62,11 +64,36 @@ impl Comparison {
                     println!("  {}: {}; {expected}", judgement.judge.name(), judgement.answer);
                     println!("  ours: {answer}; {ours}");
                 }
-                break;
+                return made.len() as u64;
             }
             state = judgement.after;
         }
+        self.run_again(&made, &answers, &ours);
         made.len() as u64
+    }
+
+    /// The calls again on a fresh record, up to each held list by one run. A held list that is then asked for
+    /// by itself is the same, and in the end so is all that is left.
+    fn run_again(&mut self, made: &[Call], answers: &[Answer], left: &Stored) {
+        let mut stored = Stored::new(&State::empty(false));
+        let mut same = true;
+        let mut at = 0;
+        for calls in made.split_inclusive(|call| matches!(call, Call::Held(_))) {
+            same &= run::run(calls, &answers[at..at + calls.len()], &mut stored);
+            at += calls.len();
+            if let Some(held @ Call::Held(_)) = calls.last() {
+                let buffer = mem::take(&mut stored.buffer);
+                same &= ours::answer(held, &mut stored) == answers[at - 1];
+                same &= stored.buffer == buffer;
+            }
+        }
+        same &= stored.allocator == left.allocator && stored.words == left.words;
+        if !same {
+            self.differences += 1;
+            if self.differences <= SHOWN {
+                println!("difference, where these calls are run: {}", shown(made));
+            }
+        }
     }
 }
 
