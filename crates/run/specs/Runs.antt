@@ -10,7 +10,7 @@ use Rattle.model.specs.History.{outcomes, recordAfter, wordsAfter, isGeneral, B
 use Rattle.model.specs.declared.Answer.{Answer}
 use Rattle.model.specs.declared.FrameAllocator.{FrameAllocator}
 use Rattle.areas.specs.Areas.{triples}
-use Rattle.commands.specs.Commands.{decoded, callOf}
+use Rattle.commands.specs.Commands.{decoded, callIn}
 use Rattle.commands.specs.Made.{Left}
 use Rattle.commands.specs.declared.Decoded.{Decoded}
 use Rattle.commands.specs.declared.Decoded.the-variants.{Make, Damaged}
@@ -27,7 +27,7 @@ decodedIn areas calls = triples (decoded (length areas)) calls
 -- up to the first that is damaged
 unfoldable pub callsIn : (areas : List ℕ) (buffer : ℕ) → List Decoded → List Call
 callsIn areas buffer [] = []
-callsIn areas buffer (Make c ∷ ds) = callOf areas buffer c ∷ callsIn areas buffer ds
+callsIn areas buffer (Make c ∷ ds) = callIn areas buffer c ∷ callsIn areas buffer ds
 callsIn areas buffer (Damaged ∷ ds) = []
 
 -- and as many as there is room for, five words to an answer
