@@ -50,7 +50,7 @@ pub fn run(
             return ended(allocator, made, RunEnd::NoRoom);
         }
         let called = commands::make_call(allocator, words, number, command, areas, held);
-        write_answer(answers, at, called.answer);
+        put_answer(answers, at, called.answer);
         allocator = called.allocator;
         made += 1;
     }
@@ -68,7 +68,7 @@ fn ended(allocator: FrameAllocator, made: usize, end: RunEnd) -> Ran
 }
 
 // An answer in five words: number, start, end, frame, count.
-fn write_answer(answers: &mut [u64], at: usize, x: Answer)
+fn put_answer(answers: &mut [u64], at: usize, x: Answer)
     requires { ⌜ at + 5 ≤ length (now answers) ⌝ }
     ensures { λ r. ⌜ now (answers .exit) ≡ take at (now (answers .entry)) ++ answerWords x ++ drop (at + 5) (now (answers .entry)) ⌝ }
 {
