@@ -1,20 +1,26 @@
 // The public face: every call of document 01. A call that changes the record changes it in place; a question takes a copy.
 ghost use Rattle.model.specs.Calls.{bootCall, bootBytesCall, sortCall, returnCall, Gives};
 ghost use Rattle.requests.specs.Asked.{callOf};
+ghost use Rattle.run.specs.Runs.{ranWith, Runs};
 ghost use Rattle.frame_allocator.specs.InPlace.{changed};
 
 pub mod by_value;
 
 pub use lists::fresh;
-use memory_structs::FrameRange;
-use model::Answer;
-use model::Area;
-use model::ByteArea;
-use model::FrameAllocator;
+pub use memory_structs::FrameRange;
+pub use model::Answer;
+pub use model::Area;
+pub use model::ByteArea;
+pub use model::Called;
+pub use model::FrameAllocator;
+pub use model::Kind;
 pub use queries::free_total;
 pub use queries::held_list;
 pub use queries::kind_of_range;
 pub use requests::Request;
+pub use run::Ending;
+pub use run::Ran;
+pub use run::RunEnd;
 
 // Boots from areas given as first frame, last frame and kind. The workspace has 4,096 words in either form, else 3; it is read only in
 // sorted form, and never written.
@@ -62,4 +68,21 @@ pub fn return_frames(a: &mut FrameAllocator, words: &mut [u64], range: FrameRang
     let returned = returns::return_frames(*a, words, range);
     *a = returned.allocator;
     returned.answer
+}
+
+// A list of calls of any length: docs/RUN.md. Record, words, answers and the held list's buffer are those of the calls one after the other;
+// the answer says how many were made, and why no more.
+pub fn run(
+    a: &mut FrameAllocator,
+    words: &mut [u64],
+    calls: &[u64],
+    areas: &[u64],
+    answers: &mut [u64],
+    held: &mut [u64],
+) -> Ending
+    ensures { λ r. ⌜ Runs (now (areas .entry)) (now (calls .entry)) (now (a .entry)) (now (words .entry)) (now (answers .entry)) (now (held .entry)) (ranWith r (now (a .exit))) (now (words .exit)) (now (answers .exit)) (now (held .exit)) ⌝ }
+{
+    let ran = run::run(*a, words, calls, areas, answers, held);
+    *a = ran.allocator;
+    ran.ending
 }

@@ -18,11 +18,16 @@ pub enum RunEnd {
     NoRoom,
 }
 
-// What a run hands back: the record, how many calls were made, and why it ended.
-pub struct Ran {
-    pub allocator: FrameAllocator,
+// How many calls were made, and why no more.
+pub struct Ending {
     pub made: usize,
     pub end: RunEnd,
+}
+
+// What a run hands back: how it ended, and the record after it.
+pub struct Ran {
+    pub ending: Ending,
+    pub allocator: FrameAllocator,
 }
 
 // Each call gets record and workspace as the call before left them. Its answer goes to the next five words of the buffer.
@@ -61,9 +66,8 @@ fn ended(allocator: FrameAllocator, made: usize, end: RunEnd) -> Ran
     ensures { λ r. ⌜ r ≡ ranTo allocator made end ⌝ }
 {
     Ran {
+        ending: Ending { made, end },
         allocator,
-        made,
-        end,
     }
 }
 
