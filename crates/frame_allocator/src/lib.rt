@@ -38,9 +38,9 @@ pub fn init_from_bytes(a: &mut FrameAllocator, areas: &[ByteArea], words: &[u64]
     ensures { λ r. ⌜ Gives (bootBytesCall (now (areas .entry))) (now (a .entry)) (now (words .entry)) (changed r (now (a .exit))) (now (words .entry)) ⌝ }
 {
     let survey = maps::byte_map::survey(areas);
-    let booted = boot::boot_surveyed(*a, survey, words);
-    *a = booted.allocator;
-    booted.answer
+    let booted_in_bytes = boot::boot_surveyed(*a, survey, words);
+    *a = booted_in_bytes.allocator;
+    booted_in_bytes.answer
 }
 
 // A request: document 01, "How a request is met".
