@@ -15,7 +15,7 @@ use Rattle.model.specs.declared.Kind.{Kind}
 use Rattle.model.specs.declared.Kind.the-variants.{General, Reserved}
 use Rattle.model.specs.declared.FrameAllocator.{FrameAllocator}
 use Rattle.model.proofs.Unchanged.{Question, general-total, reserved-total, held, question-unchanged}
-use Rattle.rules.specs.Check.{checked, refusedWith, Does}
+use Rattle.rules.specs.Check.{checked, answeredWith, refusedWith, Does}
 use Rattle.rules.proofs.Numbers.{short-call, gives-refused}
 use Rattle.rules.proofs.Going.{gives-does}
 use Rattle.held_list.specs.Listed.{Listed}
@@ -25,7 +25,7 @@ use Rattle.requests.specs.declared.Request.{Request}
 use Rattle.requests.specs.declared.Request.the-variants.{Frames, Bytes, FramesAt, BytesAt, GeneralFramesAt}
 use Rattle.commands.specs.declared.RunCall.{RunCall}
 use Rattle.commands.specs.declared.RunCall.the-variants.{Boot, BootBytes, Sort, Allocate, Return, KindOf, FreeTotal, HeldList}
-use Rattle.commands.specs.Commands.{areListed, InList, areasAt, callIn, answeredWith}
+use Rattle.commands.specs.Commands.{areListed, InList, areasAt, callIn}
 use Rattle.commands.specs.Made.{numberFor, Goes, Made}
 
 -- ---- a boot's areas: the part of the list from one word to another

@@ -8,9 +8,6 @@ use lib.Dec.{leb, eqb}
 use Rattle.memory_structs.specs.Choice.{if_then_else_}
 use Rattle.memory_structs.specs.Range.{range}
 use Rattle.model.specs.Calls.{Call, bootCall, bootBytesCall, sortCall, returnCall, kindCall, totalCall, heldCall}
-use Rattle.model.specs.declared.Answer.{Answer}
-use Rattle.model.specs.declared.Called.{Called}
-use Rattle.model.specs.declared.FrameAllocator.{FrameAllocator}
 use Rattle.areas.specs.Areas.{kindOfWord, areasIn, byteAreasIn}
 use Rattle.requests.specs.Asked as asked
 use Rattle.requests.specs.declared.Request.the-variants.{Frames, Bytes, FramesAt, BytesAt, GeneralFramesAt}
@@ -70,7 +67,3 @@ InList n (Return r) = Unit {0}
 InList n (KindOf r) = Unit {0}
 InList n (FreeTotal k) = Unit {0}
 InList n HeldList = Unit {0}
-
--- a question's answer, beside the record as it was
-abbrev pub answeredWith : Answer → FrameAllocator → Called
-answeredWith x a = record { answer = x; allocator = a }

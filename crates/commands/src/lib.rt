@@ -5,7 +5,7 @@ ghost use mathlib.Core.List.{List};
 ghost use Prim.Native.Nat.{ℕ};
 ghost use lib.ListN.{length};
 ghost use Rattle.model.specs.Calls.{bootCall, bootBytesCall, Gives};
-ghost use Rattle.rules.specs.Check.{checked};
+ghost use Rattle.rules.specs.Check.{checked, answeredWith};
 ghost use Rattle.areas.specs.Areas.{areasIn, byteAreasIn};
 ghost use Rattle.commands.specs.Commands as spec;
 ghost use Rattle.commands.specs.Commands.{InList, areasAt, callIn};
@@ -180,7 +180,7 @@ fn boot_bytes(a: FrameAllocator, words: &[u64], areas: &[u64], first: usize, cou
 
 // A question leaves the record as it was.
 fn answered(a: FrameAllocator, answer: Answer) -> Called
-    ensures { λ r. ⌜ r ≡ spec.answeredWith answer a ⌝ }
+    ensures { λ r. ⌜ r ≡ answeredWith answer a ⌝ }
 {
     Called {
         answer,

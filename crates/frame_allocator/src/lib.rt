@@ -1,8 +1,8 @@
 // The public face: every call of document 01. A call that changes the record changes it in place; a question takes a copy.
 ghost use Rattle.model.specs.Calls.{bootCall, bootBytesCall, sortCall, returnCall, Gives};
 ghost use Rattle.requests.specs.Asked.{callOf};
+ghost use Rattle.rules.specs.Check.{answeredWith};
 ghost use Rattle.run.specs.Runs.{ranWith, Runs};
-ghost use Rattle.frame_allocator.specs.InPlace.{changed};
 
 pub mod by_value;
 
@@ -25,7 +25,7 @@ pub use run::RunEnd;
 // Boots from areas given as first frame, last frame and kind. The workspace has 4,096 words in either form, else 3; it is read only in
 // sorted form, and never written.
 pub fn init(a: &mut FrameAllocator, areas: &[Area], words: &[u64]) -> Answer
-    ensures { λ r. ⌜ Gives (bootCall (now (areas .entry))) (now (a .entry)) (now (words .entry)) (changed r (now (a .exit))) (now (words .entry)) ⌝ }
+    ensures { λ r. ⌜ Gives (bootCall (now (areas .entry))) (now (a .entry)) (now (words .entry)) (answeredWith r (now (a .exit))) (now (words .entry)) ⌝ }
 {
     let survey = maps::frame_map::survey(areas);
     let booted = boot::boot_surveyed(*a, survey, words);
@@ -35,7 +35,7 @@ pub fn init(a: &mut FrameAllocator, areas: &[Area], words: &[u64]) -> Answer
 
 // Boots from areas given as address, size in bytes and kind.
 pub fn init_from_bytes(a: &mut FrameAllocator, areas: &[ByteArea], words: &[u64]) -> Answer
-    ensures { λ r. ⌜ Gives (bootBytesCall (now (areas .entry))) (now (a .entry)) (now (words .entry)) (changed r (now (a .exit))) (now (words .entry)) ⌝ }
+    ensures { λ r. ⌜ Gives (bootBytesCall (now (areas .entry))) (now (a .entry)) (now (words .entry)) (answeredWith r (now (a .exit))) (now (words .entry)) ⌝ }
 {
     let survey = maps::byte_map::survey(areas);
     let booted_in_bytes = boot::boot_surveyed(*a, survey, words);
@@ -45,7 +45,7 @@ pub fn init_from_bytes(a: &mut FrameAllocator, areas: &[ByteArea], words: &[u64]
 
 // A request: document 01, "How a request is met".
 pub fn allocate(a: &mut FrameAllocator, words: &mut [u64], request: Request) -> Answer
-    ensures { λ r. ⌜ Gives (callOf request) (now (a .entry)) (now (words .entry)) (changed r (now (a .exit))) (now (words .exit)) ⌝ }
+    ensures { λ r. ⌜ Gives (callOf request) (now (a .entry)) (now (words .entry)) (answeredWith r (now (a .exit))) (now (words .exit)) ⌝ }
 {
     let called = requests::allocate(*a, words, request);
     *a = called.allocator;
@@ -54,7 +54,7 @@ pub fn allocate(a: &mut FrameAllocator, words: &mut [u64], request: Request) -> 
 
 // From early to sorted form.
 pub fn convert_frame_allocator_to_heap_based(a: &mut FrameAllocator, words: &mut [u64]) -> Answer
-    ensures { λ r. ⌜ Gives sortCall (now (a .entry)) (now (words .entry)) (changed r (now (a .exit))) (now (words .exit)) ⌝ }
+    ensures { λ r. ⌜ Gives sortCall (now (a .entry)) (now (words .entry)) (answeredWith r (now (a .exit))) (now (words .exit)) ⌝ }
 {
     let sorted = sort::convert_frame_allocator_to_heap_based(*a, words);
     *a = sorted.allocator;
@@ -63,7 +63,7 @@ pub fn convert_frame_allocator_to_heap_based(a: &mut FrameAllocator, words: &mut
 
 // A return: the frames of the range are free again.
 pub fn return_frames(a: &mut FrameAllocator, words: &mut [u64], range: FrameRange) -> Answer
-    ensures { λ r. ⌜ Gives (returnCall range) (now (a .entry)) (now (words .entry)) (changed r (now (a .exit))) (now (words .exit)) ⌝ }
+    ensures { λ r. ⌜ Gives (returnCall range) (now (a .entry)) (now (words .entry)) (answeredWith r (now (a .exit))) (now (words .exit)) ⌝ }
 {
     let returned = returns::return_frames(*a, words, range);
     *a = returned.allocator;
