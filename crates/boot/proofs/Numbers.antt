@@ -27,7 +27,7 @@ use Rattle.areas.specs.declared.Collected.{Collected}
 use Rattle.areas.specs.Areas.{extents, anyOutside, reservedIn, piecesIn, Collects}
 use Rattle.filling.specs.Filled.{filled}
 use Rattle.boot.specs.declared.Survey.{Survey}
-use Rattle.boot.specs.Boots.{mayBoot, refusalOf, finished, bootedFrom, bootedWith, CarvedOut, Surveys, Joinable, Ready}
+use Rattle.boot.specs.Boots.{mayBoot, refusalOf, finished, bootedFrom, bootedWith, CarvedOut, Surveys, Joinable, Finishable}
 
 -- an area that passes 2 ends at or below the top
 reserved-low : (xs : List Extent) → anyOf aboveTop (ranges xs) ≡ false → allOf (λ r. leb (r .end) top) (reservedOf xs) ≡ true
@@ -175,7 +175,7 @@ module _ (xs : List BootArea) (c : Collected) (h : Collects xs c) (a : FrameAllo
 
 -- what is surveyed of these areas boots as they do
 module _ (xs : List BootArea) (s : Survey) (h : Surveys xs s) where
-  pub survey-ready : Ready s
+  pub survey-ready : Finishable s
   survey-ready z = record { counted = listed-counted _ _ (h .carves z); whole = may-join xs (s .collected) (h .collects) z }
 
   pub survey-boots : (a : FrameAllocator) → (if eqb (refusalOf (s .collected)) 0 then finished (s .pieces) (rangesIn (s .collected .reserved)) a else refusedWith (refusalOf (s .collected)) a) ≡ bootedFrom xs a

@@ -62,8 +62,9 @@ pub record Joinable (s : Survey) : Type 0 where
   pub counted : Counted (s .pieces)
   pub whole : Whole (s .collected .reserved)
 
-abbrev pub Ready : Survey → Type 0
-Ready s = refusalOf (s .collected) ≡ 0 → Joinable s
+-- and so of areas that 5, 4 and 2 let pass
+abbrev pub Finishable : Survey → Type 0
+Finishable s = refusalOf (s .collected) ≡ 0 → Joinable s
 
 -- "Order: 3, 11; boot then 10, 5, 4, 2, 7, 6"
 unfoldable pub bootedWith : Survey → FrameAllocator → List ℕ → Called
