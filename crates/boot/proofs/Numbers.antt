@@ -15,6 +15,7 @@ use Rattle.model.specs.Lists.{anyOf, allOf, disjoint}
 use Rattle.model.specs.Boot.{Extent, general, reserved, reservedOf, rangeOf, ranges, join, booted}
 use Rattle.model.specs.Boot as model
 use Rattle.model.specs.Store.{recordOf}
+use Rattle.model.specs.declared.Called.{Called}
 use Rattle.model.specs.declared.FrameAllocator.{FrameAllocator}
 use Rattle.model.proofs.Boots.{join-length}
 use Rattle.model.proofs.Joined.{join-apart}
@@ -27,7 +28,13 @@ use Rattle.areas.specs.declared.Collected.{Collected}
 use Rattle.areas.specs.Areas.{extents, anyOutside, reservedIn, piecesIn, Collects}
 use Rattle.filling.specs.Filled.{filled}
 use Rattle.boot.specs.declared.Survey.{Survey}
-use Rattle.boot.specs.Boots.{mayBoot, refusalOf, finished, bootedFrom, bootedWith, CarvedOut, Surveys, Joinable, Finishable}
+use Rattle.boot.specs.Boots.{mayBoot, refusalOf, finished, bootedWith, CarvedOut, Surveys, Joinable, Finishable}
+
+-- a boot of these areas on empty lists
+unfoldable pub bootedFrom : List BootArea → FrameAllocator → Called
+bootedFrom xs a =
+    if eqb (model.refusal (anyOutside xs) (extents xs)) 0 then acceptedWith 0 (recordOf (model.booted (extents xs)))
+    else refusedWith (model.refusal (anyOutside xs) (extents xs)) a
 
 -- an area that passes 2 ends at or below the top
 reserved-low : (xs : List Extent) → anyOf aboveTop (ranges xs) ≡ false → allOf (λ r. leb (r .end) top) (reservedOf xs) ≡ true

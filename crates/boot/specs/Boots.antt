@@ -8,7 +8,7 @@ use Rattle.memory_structs.specs.declared.range.FrameRange.{FrameRange}
 use Rattle.model.specs.Lists.{disjoint}
 use Rattle.model.specs.Boot as model
 use Rattle.model.specs.Calls.{noEntries}
-use Rattle.model.specs.Store.{load, recordOf}
+use Rattle.model.specs.Store.{load}
 use Rattle.model.specs.declared.Called.{Called}
 use Rattle.model.specs.declared.FrameAllocator.{FrameAllocator}
 use Rattle.rules.specs.Check.{checked, refusedWith, acceptedWith}
@@ -16,7 +16,7 @@ use Rattle.carving.specs.declared.RangeList.{RangeList}
 use Rattle.carving.specs.Ranges.{listed, rangesIn, Carvable, Counted, Whole}
 use Rattle.areas.specs.declared.BootArea.{BootArea}
 use Rattle.areas.specs.declared.Collected.{Collected}
-use Rattle.areas.specs.Areas.{extents, anyOutside, reservedIn, piecesIn, Collects}
+use Rattle.areas.specs.Areas.{reservedIn, piecesIn, Collects}
 use Rattle.boot.specs.declared.Survey.{Survey}
 use Rattle.filling.specs.Filled.{filled}
 
@@ -36,12 +36,6 @@ unfoldable pub finished : RangeList → List FrameRange → FrameAllocator → C
 finished pieces rs a =
     if ltb 32 (pieces .len) then refusedWith 7 a else
     if disjoint (rangesIn pieces ++ model.join rs) then acceptedWith 0 (filled (rangesIn pieces) (model.join rs)) else refusedWith 6 a
-
--- a boot of these areas on empty lists
-unfoldable pub bootedFrom : List BootArea → FrameAllocator → Called
-bootedFrom xs a =
-    if eqb (model.refusal (anyOutside xs) (extents xs)) 0 then acceptedWith 0 (recordOf (model.booted (extents xs)))
-    else refusedWith (model.refusal (anyOutside xs) (extents xs)) a
 
 -- reserved areas that 5, 4 and 2 let pass may be carved out
 abbrev pub Sound : Collected → Type 0
