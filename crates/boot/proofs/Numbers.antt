@@ -25,7 +25,7 @@ use Rattle.carving.specs.Ranges.{listed, rangesIn, Whole, Carvable}
 use Rattle.carving.proofs.Listed.{count, listed-whole, listed-ranges, listed-counted, whole-length}
 use Rattle.areas.specs.declared.BootArea.{BootArea}
 use Rattle.areas.specs.declared.Collected.{Collected}
-use Rattle.areas.specs.Areas.{extents, anyOutside, reservedIn, piecesIn, Collects}
+use Rattle.areas.specs.Areas.{extents, anyOutside, reservedIn, piecesIn, CollectedOf}
 use Rattle.filling.specs.Filled.{filled}
 use Rattle.boot.specs.declared.Survey.{Survey}
 use Rattle.boot.specs.Boots.{mayBoot, refusalOf, finished, bootedWith, CarvedOut, Surveys, Joinable, Finishable}
@@ -85,7 +85,7 @@ passed c z = go (ltb 32 (c .reserved .len)) (c .«any_empty») (c .«any_outside
     go false false false p q r e = record { few = ltb-false 32 (c .reserved .len) p; filled = q; inside = r }
 
 -- the reserved areas that are collected may be carved out
-module _ (xs : List BootArea) (c : Collected) (h : Collects xs c) (z : refusalOf c ≡ 0) where
+module _ (xs : List BootArea) (c : Collected) (h : CollectedOf xs c) (z : refusalOf c ≡ 0) where
   pub reserved-are : rangesIn (c .reserved) ≡ reservedIn xs
   reserved-are = listed-ranges (c .reserved) (reservedIn xs) (passed c z .few) (h .reserved-are)
 
@@ -110,7 +110,7 @@ none-carvable l e =
     record { few = few; filled = ap (anyOf isEmpty) none; low = ap (allOf (λ r. leb (r .end) top)) none }
 
 -- collected and carved
-pub surveyed : (xs : List BootArea) (c : Collected) → Collects xs c → (r : RangeList) → CarvedOut c r → (pieces : RangeList) → pieces ≡ listed (piecesIn (rangesIn r) xs) → Surveys xs (record { collected = c; pieces = pieces })
+pub surveyed : (xs : List BootArea) (c : Collected) → CollectedOf xs c → (r : RangeList) → CarvedOut c r → (pieces : RangeList) → pieces ≡ listed (piecesIn (rangesIn r) xs) → Surveys xs (record { collected = c; pieces = pieces })
 surveyed xs c h r o pieces e = record {
   collects = h;
   carves = λ z. e ∙ ap (λ (l : RangeList). listed (piecesIn (rangesIn l) xs)) (o .same z) ∙ ap (λ (rs : List FrameRange). listed (piecesIn rs xs)) (reserved-are xs c h z);
@@ -125,7 +125,7 @@ above-32 m n e = go (ltb 32 n) refl
     go false p = le-ltb 32 m (omega (arith, ltb-false 32 n p)) ∙ sym p
 
 -- the numbers of the model in two parts: 5, 4 and 2, then 7 and 6
-module _ (xs : List BootArea) (c : Collected) (h : Collects xs c) (a : FrameAllocator) where
+module _ (xs : List BootArea) (c : Collected) (h : CollectedOf xs c) (a : FrameAllocator) where
   abbrev rs : List FrameRange
   rs = reservedIn xs
 

@@ -16,7 +16,7 @@ use Rattle.carving.specs.declared.RangeList.{RangeList}
 use Rattle.carving.specs.Ranges.{listed, rangesIn, Carvable, Counted, Whole}
 use Rattle.areas.specs.declared.BootArea.{BootArea}
 use Rattle.areas.specs.declared.Collected.{Collected}
-use Rattle.areas.specs.Areas.{reservedIn, piecesIn, Collects}
+use Rattle.areas.specs.Areas.{reservedIn, piecesIn, CollectedOf}
 use Rattle.boot.specs.declared.Survey.{Survey}
 use Rattle.filling.specs.Filled.{filled}
 
@@ -48,7 +48,7 @@ pub record CarvedOut (c : Collected) (r : RangeList) : Type 0 where
 
 -- what is known of these areas before the record is looked at
 pub record Surveys (xs : List BootArea) (s : Survey) : Type 0 where
-  pub collects : Collects xs (s .collected)
+  pub collects : CollectedOf xs (s .collected)
   pub carves : refusalOf (s .collected) ≡ 0 → s .pieces ≡ listed (piecesIn (reservedIn xs) xs)
 
 -- what 7 and 6 need of it
