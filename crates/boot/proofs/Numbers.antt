@@ -26,7 +26,7 @@ use Rattle.carving.proofs.Listed.{count, listed-whole, listed-ranges, listed-co
 use Rattle.areas.specs.declared.BootArea.{BootArea}
 use Rattle.areas.specs.declared.Collected.{Collected}
 use Rattle.areas.specs.Areas.{extents, anyOutside, reservedIn, piecesIn, CollectedOf}
-use Rattle.filling.specs.Filled.{filled}
+use Rattle.filling.specs.Filled.{filledRecord}
 use Rattle.boot.specs.declared.Survey.{Survey}
 use Rattle.boot.specs.Boots.{mayBoot, refusalOf, finished, bootedWith, CarvedOut, Surveys, Joinable, Finishable}
 
@@ -227,7 +227,7 @@ module _ (pieces reserved joined : RangeList) (a : FrameAllocator) (w : Whole re
   joined-apart = ap disjoint joined-are ∙ join-apart (rangesIn reserved)
 
   module _ (h : pieces .len ≤ 32) where
-    pub fills : disjoint (rangesIn pieces ++ rangesIn joined) ≡ true → acceptedWith 0 (filled (rangesIn pieces) (rangesIn joined)) ≡ finished pieces (rangesIn reserved) a
+    pub fills : disjoint (rangesIn pieces ++ rangesIn joined) ≡ true → acceptedWith 0 (filledRecord (rangesIn pieces) (rangesIn joined)) ≡ finished pieces (rangesIn reserved) a
     unfolding finished
     fills e = rw (le-ltb 32 (pieces .len) h, sym joined-are, e)
 

@@ -18,7 +18,7 @@ use Rattle.areas.specs.declared.BootArea.{BootArea}
 use Rattle.areas.specs.declared.Collected.{Collected}
 use Rattle.areas.specs.Areas.{reservedIn, piecesIn, CollectedOf}
 use Rattle.boot.specs.declared.Survey.{Survey}
-use Rattle.filling.specs.Filled.{filled}
+use Rattle.filling.specs.Filled.{filledRecord}
 
 -- "Order: 3, 11; boot then 10"
 unfoldable pub mayBoot : FrameAllocator → List ℕ → ℕ
@@ -35,7 +35,7 @@ refusalOf c =
 unfoldable pub finished : RangeList → List FrameRange → FrameAllocator → Called
 finished pieces rs a =
     if ltb 32 (pieces .len) then refusedWith 7 a else
-    if disjoint (rangesIn pieces ++ model.join rs) then acceptedWith 0 (filled (rangesIn pieces) (model.join rs)) else refusedWith 6 a
+    if disjoint (rangesIn pieces ++ model.join rs) then acceptedWith 0 (filledRecord (rangesIn pieces) (model.join rs)) else refusedWith 6 a
 
 -- reserved areas that 5, 4 and 2 let pass may be carved out
 abbrev pub Sound : Collected → Type 0

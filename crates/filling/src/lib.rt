@@ -9,7 +9,7 @@ ghost use Rattle.model.specs.Lists.{anyOf, disjoint};
 ghost use Rattle.model.specs.Boot.{early};
 ghost use Rattle.model.specs.Store.{earlyOf};
 ghost use Rattle.carving.specs.Ranges.{pairs, rangesIn, Whole};
-ghost use Rattle.filling.specs.Filled.{filled};
+ghost use Rattle.filling.specs.Filled.{filledRecord};
 use carving::RangeList;
 use memory_structs::meet;
 use model::EarlyList;
@@ -71,7 +71,7 @@ fn meets_from<'a>(
 pub fn fill_lists(pieces: RangeList, reserved: RangeList) -> FrameAllocator
     requires { ⌜ Whole pieces ⌝ }
     requires { ⌜ Whole reserved ⌝ }
-    ensures { λ r. ⌜ r ≡ filled (rangesIn pieces) (rangesIn reserved) ⌝ }
+    ensures { λ r. ⌜ r ≡ filledRecord (rangesIn pieces) (rangesIn reserved) ⌝ }
 {
     let general = early_list(pieces);
     let reserved = early_list(reserved);
