@@ -15,7 +15,7 @@ use Rattle.carving.specs.Ranges.{listed, Appended}
 use Rattle.areas.specs.declared.AreaUnit.{AreaUnit}
 use Rattle.areas.specs.declared.BootArea.{BootArea}
 use Rattle.areas.specs.declared.Collected.{Collected}
-use Rattle.areas.specs.Areas.{areaOf, read, extents, anyOutside, reservedIn, piecesIn, Collects, Adds}
+use Rattle.areas.specs.Areas.{areaOf, read, extents, anyOutside, reservedIn, piecesIn, CollectedOf, OneAreaMore}
 use Rattle.areas.proofs.Read.{read-next, read-end}
 
 -- over two lists of areas
@@ -62,7 +62,7 @@ with-second x y j e p = p ∙ sym (ap (λ (b : Bool). b || y) e)
 
 -- one area, by its kind
 module _ (c d : Collected) (a : BootArea) (o : d .«any_outside» ≡ (c .«any_outside» || a .outside)) where
-  pub adds-general : a .kind ≡ General → d .reserved ≡ c .reserved → d .«any_empty» ≡ c .«any_empty» → Adds c a d
+  pub adds-general : a .kind ≡ General → d .reserved ≡ c .reserved → d .«any_empty» ≡ c .«any_empty» → OneAreaMore c a d
   unfolding extents marked reservedOf anyOf
   adds-general k r e = record {
     appended = λ xs p. r ∙ p ∙ rw k (ap listed (sym (append-nil xs)));
@@ -71,7 +71,7 @@ module _ (c d : Collected) (a : BootArea) (o : d .«any_outside» ≡ (c .«any_
   }
 
   pub adds-reserved : a .kind ≡ Reserved → Appended (c .reserved) (range (a .start) (a .end) ∷ []) (d .reserved)
-      → d .«any_empty» ≡ (c .«any_empty» || isEmpty (range (a .start) (a .end))) → Adds c a d
+      → d .«any_empty» ≡ (c .«any_empty» || isEmpty (range (a .start) (a .end))) → OneAreaMore c a d
   unfolding extents marked reservedOf anyOf
   adds-reserved k r e = record {
     appended = λ xs p. rw k (r xs p);
@@ -79,7 +79,7 @@ module _ (c d : Collected) (a : BootArea) (o : d .«any_outside» ≡ (c .«any_
     outside-is = o;
   }
 
-pub nothing-yet : (c : Collected) → c .reserved ≡ listed [] → c .«any_empty» ≡ false → c .«any_outside» ≡ false → Collects [] c
+pub nothing-yet : (c : Collected) → c .reserved ≡ listed [] → c .«any_empty» ≡ false → c .«any_outside» ≡ false → CollectedOf [] c
 unfolding extents reservedOf anyOf anyOutside
 nothing-yet c r e o = record { reserved-are = r; empty-is = e; outside-is = o }
 
@@ -92,7 +92,7 @@ module _ (rs : List FrameRange) (a : BootArea) (before after : RangeList) where
   unfolding extents marked allPieces
   pieces-reserved k e = rw k (λ xs p. e ∙ p ∙ ap listed (sym (append-nil xs)))
 
-pub collected : (xs : List BootArea) (a : BootArea) (c d : Collected) → Collects xs c → Adds c a d → Collects (xs ++ a ∷ []) d
+pub collected : (xs : List BootArea) (a : BootArea) (c d : Collected) → CollectedOf xs c → OneAreaMore c a d → CollectedOf (xs ++ a ∷ []) d
 collected xs a c d before s =
     let rs = reserved-in xs a in
     record {
@@ -121,20 +121,20 @@ module _ (u : AreaUnit) (ws : List ℕ) (i : ℕ) (done : List BootArea) (is : r
 pub record Collecting (u : AreaUnit) (ws : List ℕ) (i : ℕ) (c : Collected) : Type 0 where
   pub done : List BootArea
   pub is : read u ws ≡ done ++ read u (drop i ws)
-  pub collects : Collects done c
+  pub collects : CollectedOf done c
 
-pub collecting-start : (u : AreaUnit) (ws : List ℕ) (c : Collected) → Collects [] c → Collecting u ws 0 c
+pub collecting-start : (u : AreaUnit) (ws : List ℕ) (c : Collected) → CollectedOf [] c → Collecting u ws 0 c
 collecting-start u ws c h = record { done = []; is = refl; collects = h }
 
-pub collecting-next : (u : AreaUnit) (ws : List ℕ) (i : ℕ) (a : BootArea) (c d : Collected) → i + 3 ≤ length ws → Collecting u ws i c → a ≡ areaAt u ws i → Adds c a d → Collecting u ws (i + 3) d
+pub collecting-next : (u : AreaUnit) (ws : List ℕ) (i : ℕ) (a : BootArea) (c d : Collected) → i + 3 ≤ length ws → Collecting u ws i c → a ≡ areaAt u ws i → OneAreaMore c a d → Collecting u ws (i + 3) d
 collecting-next u ws i a c d h k e s = record {
   done = k .done ++ areaAt u ws i ∷ [];
   is = read-on u ws i (k .done) (k .is) h;
-  collects = collected (k .done) (areaAt u ws i) c d (k .collects) (subst (λ (x : BootArea). Adds c x d) e s);
+  collects = collected (k .done) (areaAt u ws i) c d (k .collects) (subst (λ (x : BootArea). OneAreaMore c x d) e s);
 }
 
-pub collecting-end : (u : AreaUnit) (ws : List ℕ) (i : ℕ) (c : Collected) → length ws < i + 3 → Collecting u ws i c → Collects (read u ws) c
-collecting-end u ws i c h k = subst (λ (xs : List BootArea). Collects xs c) (read-all u ws i (k .done) (k .is) h) (k .collects)
+pub collecting-end : (u : AreaUnit) (ws : List ℕ) (i : ℕ) (c : Collected) → length ws < i + 3 → Collecting u ws i c → CollectedOf (read u ws) c
+collecting-end u ws i c h k = subst (λ (xs : List BootArea). CollectedOf xs c) (read-all u ws i (k .done) (k .is) h) (k .collects)
 
 pub record Carving (rs : List FrameRange) (u : AreaUnit) (ws : List ℕ) (i : ℕ) (l : RangeList) : Type 0 where
   pub done : List BootArea

@@ -83,13 +83,13 @@ abbrev pub piecesIn : List FrameRange → List BootArea → List FrameRange
 piecesIn rs xs = allPieces rs (extents xs)
 
 -- what is collected of these areas
-pub record Collects (xs : List BootArea) (c : Collected) : Type 0 where
+pub record CollectedOf (xs : List BootArea) (c : Collected) : Type 0 where
   pub reserved-are : c .reserved ≡ listed (reservedIn xs)
   pub empty-is : c .«any_empty» ≡ anyOf isEmpty (reservedIn xs)
   pub outside-is : c .«any_outside» ≡ anyOutside xs
 
 -- and of one area more
-pub record Adds (before : Collected) (a : BootArea) (after : Collected) : Type 0 where
+pub record OneAreaMore (before : Collected) (a : BootArea) (after : Collected) : Type 0 where
   pub appended : Appended (before .reserved) (reservedIn (a ∷ [])) (after .reserved)
   pub empty-is : after .«any_empty» ≡ (before .«any_empty» || anyOf isEmpty (reservedIn (a ∷ [])))
   pub outside-is : after .«any_outside» ≡ (before .«any_outside» || a .outside)

@@ -6,7 +6,7 @@ ghost use Prim.Native.Nat.{_+_, _≤_};
 ghost use lib.ListN.{length, getD};
 ghost use Rattle.carving.specs.Ranges.{listed, rangeListOf, rangesIn, Carvable, Appended};
 ghost use Rattle.areas.specs.Areas as spec;
-ghost use Rattle.areas.specs.Areas.{Collects, Adds};
+ghost use Rattle.areas.specs.Areas.{CollectedOf, OneAreaMore};
 use carving::RangeList;
 use carving::check_and_add_free_region;
 use memory_structs::FrameRange;
@@ -36,7 +36,7 @@ pub struct Collected {
 
 // Reads the whole list once, however long it is and however the kinds are mixed.
 pub fn collect(areas: &[u64], unit: AreaUnit) -> Collected
-    ensures { λ r. ⌜ Collects (spec.read unit (now (areas .entry))) r ⌝ }
+    ensures { λ r. ⌜ CollectedOf (spec.read unit (now (areas .entry))) r ⌝ }
 {
     let mut c = nothing_collected();
     let mut i = 0;
@@ -63,7 +63,7 @@ pub fn carve(areas: &[u64], unit: AreaUnit, reserved: RangeList) -> RangeList
 }
 
 pub fn nothing_collected() -> Collected
-    ensures { λ r. ⌜ Collects [] r ⌝ }
+    ensures { λ r. ⌜ CollectedOf [] r ⌝ }
 {
     let reserved = carving::no_ranges();
     Collected {
@@ -74,7 +74,7 @@ pub fn nothing_collected() -> Collected
 }
 
 pub fn collect_area(c: Collected, area: BootArea) -> Collected
-    ensures { λ r. ⌜ Adds c area r ⌝ }
+    ensures { λ r. ⌜ OneAreaMore c area r ⌝ }
 {
     let any_outside = c.any_outside || area.outside;
     let kind = area.kind;

@@ -33,8 +33,8 @@ use Rattle.carving.specs.Ranges.{rangesIn}
 use Rattle.areas.specs.Areas.{areasIn, byteAreasIn, bootAreas, bootByteAreas, read, extents, anyOutside}
 use Rattle.areas.proofs.Read.{frames-taken, bytes-taken, words-frames, words-bytes}
 use Rattle.boot.specs.declared.Survey.{Survey}
-use Rattle.boot.specs.Boots.{refusalOf, finished, mayBoot, bootedFrom, bootedWith, Surveys}
-use Rattle.boot.proofs.Numbers.{Bounded, survey-boots}
+use Rattle.boot.specs.Boots.{refusalOf, finished, mayBoot, bootedWith, Surveys}
+use Rattle.boot.proofs.Numbers.{bootedFrom, Bounded, survey-boots}
 
 -- no entries: the four counts come to 0
 pub entries-counted : (l : Lists) {m n o p : ℕ} → m ≡ length (entries (slotsAt GeneralFree l)) → n ≡ length (entries (slotsAt ReservedFree l)) → o ≡ length (entries (slotsAt GeneralRegions l)) → p ≡ length (entries (slotsAt ReservedRegions l)) → not (eqb (m + n + o + p) 0) ≡ not (noEntries l)

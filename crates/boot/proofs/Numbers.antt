@@ -15,6 +15,7 @@ use Rattle.model.specs.Lists.{anyOf, allOf, disjoint}
 use Rattle.model.specs.Boot.{Extent, general, reserved, reservedOf, rangeOf, ranges, join, booted}
 use Rattle.model.specs.Boot as model
 use Rattle.model.specs.Store.{recordOf}
+use Rattle.model.specs.declared.Called.{Called}
 use Rattle.model.specs.declared.FrameAllocator.{FrameAllocator}
 use Rattle.model.proofs.Boots.{join-length}
 use Rattle.model.proofs.Joined.{join-apart}
@@ -24,10 +25,16 @@ use Rattle.carving.specs.Ranges.{listed, rangesIn, Whole, Carvable}
 use Rattle.carving.proofs.Listed.{count, listed-whole, listed-ranges, listed-counted, whole-length}
 use Rattle.areas.specs.declared.BootArea.{BootArea}
 use Rattle.areas.specs.declared.Collected.{Collected}
-use Rattle.areas.specs.Areas.{extents, anyOutside, reservedIn, piecesIn, Collects}
-use Rattle.filling.specs.Filled.{filled}
+use Rattle.areas.specs.Areas.{extents, anyOutside, reservedIn, piecesIn, CollectedOf}
+use Rattle.filling.specs.Filled.{filledRecord}
 use Rattle.boot.specs.declared.Survey.{Survey}
-use Rattle.boot.specs.Boots.{mayBoot, refusalOf, finished, bootedFrom, bootedWith, CarvedOut, Surveys, Joinable, Ready}
+use Rattle.boot.specs.Boots.{mayBoot, refusalOf, finished, bootedWith, CarvedOut, Surveys, Joinable, Finishable}
+
+-- a boot of these areas on empty lists
+unfoldable pub bootedFrom : List BootArea → FrameAllocator → Called
+bootedFrom xs a =
+    if eqb (model.refusal (anyOutside xs) (extents xs)) 0 then acceptedWith 0 (recordOf (model.booted (extents xs)))
+    else refusedWith (model.refusal (anyOutside xs) (extents xs)) a
 
 -- an area that passes 2 ends at or below the top
 reserved-low : (xs : List Extent) → anyOf aboveTop (ranges xs) ≡ false → allOf (λ r. leb (r .end) top) (reservedOf xs) ≡ true
@@ -78,7 +85,7 @@ passed c z = go (ltb 32 (c .reserved .len)) (c .«any_empty») (c .«any_outside
     go false false false p q r e = record { few = ltb-false 32 (c .reserved .len) p; filled = q; inside = r }
 
 -- the reserved areas that are collected may be carved out
-module _ (xs : List BootArea) (c : Collected) (h : Collects xs c) (z : refusalOf c ≡ 0) where
+module _ (xs : List BootArea) (c : Collected) (h : CollectedOf xs c) (z : refusalOf c ≡ 0) where
   pub reserved-are : rangesIn (c .reserved) ≡ reservedIn xs
   reserved-are = listed-ranges (c .reserved) (reservedIn xs) (passed c z .few) (h .reserved-are)
 
@@ -103,7 +110,7 @@ none-carvable l e =
     record { few = few; filled = ap (anyOf isEmpty) none; low = ap (allOf (λ r. leb (r .end) top)) none }
 
 -- collected and carved
-pub surveyed : (xs : List BootArea) (c : Collected) → Collects xs c → (r : RangeList) → CarvedOut c r → (pieces : RangeList) → pieces ≡ listed (piecesIn (rangesIn r) xs) → Surveys xs (record { collected = c; pieces = pieces })
+pub surveyed : (xs : List BootArea) (c : Collected) → CollectedOf xs c → (r : RangeList) → CarvedOut c r → (pieces : RangeList) → pieces ≡ listed (piecesIn (rangesIn r) xs) → Surveys xs (record { collected = c; pieces = pieces })
 surveyed xs c h r o pieces e = record {
   collects = h;
   carves = λ z. e ∙ ap (λ (l : RangeList). listed (piecesIn (rangesIn l) xs)) (o .same z) ∙ ap (λ (rs : List FrameRange). listed (piecesIn rs xs)) (reserved-are xs c h z);
@@ -118,7 +125,7 @@ above-32 m n e = go (ltb 32 n) refl
     go false p = le-ltb 32 m (omega (arith, ltb-false 32 n p)) ∙ sym p
 
 -- the numbers of the model in two parts: 5, 4 and 2, then 7 and 6
-module _ (xs : List BootArea) (c : Collected) (h : Collects xs c) (a : FrameAllocator) where
+module _ (xs : List BootArea) (c : Collected) (h : CollectedOf xs c) (a : FrameAllocator) where
   abbrev rs : List FrameRange
   rs = reservedIn xs
 
@@ -175,7 +182,7 @@ module _ (xs : List BootArea) (c : Collected) (h : Collects xs c) (a : FrameAllo
 
 -- what is surveyed of these areas boots as they do
 module _ (xs : List BootArea) (s : Survey) (h : Surveys xs s) where
-  pub survey-ready : Ready s
+  pub survey-ready : Finishable s
   survey-ready z = record { counted = listed-counted _ _ (h .carves z); whole = may-join xs (s .collected) (h .collects) z }
 
   pub survey-boots : (a : FrameAllocator) → (if eqb (refusalOf (s .collected)) 0 then finished (s .pieces) (rangesIn (s .collected .reserved)) a else refusedWith (refusalOf (s .collected)) a) ≡ bootedFrom xs a
@@ -220,7 +227,7 @@ module _ (pieces reserved joined : RangeList) (a : FrameAllocator) (w : Whole re
   joined-apart = ap disjoint joined-are ∙ join-apart (rangesIn reserved)
 
   module _ (h : pieces .len ≤ 32) where
-    pub fills : disjoint (rangesIn pieces ++ rangesIn joined) ≡ true → acceptedWith 0 (filled (rangesIn pieces) (rangesIn joined)) ≡ finished pieces (rangesIn reserved) a
+    pub fills : disjoint (rangesIn pieces ++ rangesIn joined) ≡ true → acceptedWith 0 (filledRecord (rangesIn pieces) (rangesIn joined)) ≡ finished pieces (rangesIn reserved) a
     unfolding finished
     fills e = rw (le-ltb 32 (pieces .len) h, sym joined-are, e)
 

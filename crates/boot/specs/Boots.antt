@@ -8,7 +8,7 @@ use Rattle.memory_structs.specs.declared.range.FrameRange.{FrameRange}
 use Rattle.model.specs.Lists.{disjoint}
 use Rattle.model.specs.Boot as model
 use Rattle.model.specs.Calls.{noEntries}
-use Rattle.model.specs.Store.{load, recordOf}
+use Rattle.model.specs.Store.{load}
 use Rattle.model.specs.declared.Called.{Called}
 use Rattle.model.specs.declared.FrameAllocator.{FrameAllocator}
 use Rattle.rules.specs.Check.{checked, refusedWith, acceptedWith}
@@ -16,9 +16,9 @@ use Rattle.carving.specs.declared.RangeList.{RangeList}
 use Rattle.carving.specs.Ranges.{listed, rangesIn, Carvable, Counted, Whole}
 use Rattle.areas.specs.declared.BootArea.{BootArea}
 use Rattle.areas.specs.declared.Collected.{Collected}
-use Rattle.areas.specs.Areas.{extents, anyOutside, reservedIn, piecesIn, Collects}
+use Rattle.areas.specs.Areas.{reservedIn, piecesIn, CollectedOf}
 use Rattle.boot.specs.declared.Survey.{Survey}
-use Rattle.filling.specs.Filled.{filled}
+use Rattle.filling.specs.Filled.{filledRecord}
 
 -- "Order: 3, 11; boot then 10"
 unfoldable pub mayBoot : FrameAllocator → List ℕ → ℕ
@@ -35,13 +35,7 @@ refusalOf c =
 unfoldable pub finished : RangeList → List FrameRange → FrameAllocator → Called
 finished pieces rs a =
     if ltb 32 (pieces .len) then refusedWith 7 a else
-    if disjoint (rangesIn pieces ++ model.join rs) then acceptedWith 0 (filled (rangesIn pieces) (model.join rs)) else refusedWith 6 a
-
--- a boot of these areas on empty lists
-unfoldable pub bootedFrom : List BootArea → FrameAllocator → Called
-bootedFrom xs a =
-    if eqb (model.refusal (anyOutside xs) (extents xs)) 0 then acceptedWith 0 (recordOf (model.booted (extents xs)))
-    else refusedWith (model.refusal (anyOutside xs) (extents xs)) a
+    if disjoint (rangesIn pieces ++ model.join rs) then acceptedWith 0 (filledRecord (rangesIn pieces) (model.join rs)) else refusedWith 6 a
 
 -- reserved areas that 5, 4 and 2 let pass may be carved out
 abbrev pub Sound : Collected → Type 0
@@ -54,7 +48,7 @@ pub record CarvedOut (c : Collected) (r : RangeList) : Type 0 where
 
 -- what is known of these areas before the record is looked at
 pub record Surveys (xs : List BootArea) (s : Survey) : Type 0 where
-  pub collects : Collects xs (s .collected)
+  pub collects : CollectedOf xs (s .collected)
   pub carves : refusalOf (s .collected) ≡ 0 → s .pieces ≡ listed (piecesIn (reservedIn xs) xs)
 
 -- what 7 and 6 need of it
@@ -62,8 +56,9 @@ pub record Joinable (s : Survey) : Type 0 where
   pub counted : Counted (s .pieces)
   pub whole : Whole (s .collected .reserved)
 
-abbrev pub Ready : Survey → Type 0
-Ready s = refusalOf (s .collected) ≡ 0 → Joinable s
+-- and so of areas that 5, 4 and 2 let pass
+abbrev pub Finishable : Survey → Type 0
+Finishable s = refusalOf (s .collected) ≡ 0 → Joinable s
 
 -- "Order: 3, 11; boot then 10, 5, 4, 2, 7, 6"
 unfoldable pub bootedWith : Survey → FrameAllocator → List ℕ → Called

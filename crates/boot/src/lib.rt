@@ -7,7 +7,7 @@ ghost use Rattle.rules.specs.Check.{Ruled};
 ghost use Rattle.carving.specs.Ranges.{rangesIn, Whole, Counted};
 ghost use Rattle.areas.specs.Areas.{read, areasIn, byteAreasIn};
 ghost use Rattle.boot.specs.Boots as spec;
-ghost use Rattle.boot.specs.Boots.{Sound, CarvedOut, Surveys, Ready};
+ghost use Rattle.boot.specs.Boots.{Sound, CarvedOut, Surveys, Finishable};
 use areas::AreaUnit;
 use areas::Collected;
 use carving::RangeList;
@@ -58,7 +58,7 @@ pub fn carvable(c: Collected) -> RangeList
 
 // 3, 11 and 10; then 5, 4 and 2; then 7 and 6, or the record with its lists filled.
 pub fn boot_surveyed(a: FrameAllocator, s: Survey, words: &[u64]) -> Called
-    requires { ⌜ Ready s ⌝ }
+    requires { ⌜ Finishable s ⌝ }
     ensures { λ r. ⌜ r ≡ spec.bootedWith s a (now (words .entry)) ⌝ }
 {
     let number = may_boot(a, words);

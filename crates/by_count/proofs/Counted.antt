@@ -4,7 +4,9 @@ use native.Mathlib.Omega.{arith}
 use mathlib.Core.Path.{_≡_, refl, sym, ap, _∙_}
 use borrow.Author.Tests.{eq-eqb, ne-eqb, lt-ltb, le-ltb}
 use Rattle.memory_structs.specs.Range.{range, addressLimit}
-use Rattle.model.specs.Lists.{Lists, Place, at, nowhere, rangeAt}
+use Rattle.model.specs.Lists.{Lists, rangeAt}
+use Rattle.model.specs.declared.Place.{Place}
+use Rattle.model.specs.declared.Place.the-variants.{Nowhere, At}
 use Rattle.model.specs.Requests.{refused, takeGeneral, fromPlace, largeEnough, byCount, framesOf, byBytes}
 use Rattle.lists.specs.declared.record.WhichList.the-variants.{GeneralFree}
 use Rattle.grants.specs.declared.Chosen.{Chosen}
@@ -21,7 +23,7 @@ module _ (n : ℕ) (l : Lists) where
   unfolding byCount
   count-on k q e = rw (ne-eqb n 0 k) (ap (fromPlace l n) e)
 
-  pub no-chunk : fromPlace l n nowhere ≡ refused 14 l
+  pub no-chunk : fromPlace l n Nowhere ≡ refused 14 l
   unfolding fromPlace
   no-chunk = refl
 
@@ -35,7 +37,7 @@ unfolding byBytes
 bytes-on b n l h e = rw (le-ltb addressLimit b h, e) refl
 
 -- the beginning of the chunk at i
-pub place-taken : (l : Lists) (n i : ℕ) (c : Chosen) (end : ℕ) → 0 < n → c ≡ oneChunk i (rangeAt (l .generalFree) i) → end ≡ c .start + (n - 1) → fromPlace l n (at i) ≡ taken GeneralFree c (c .start) end l
+pub place-taken : (l : Lists) (n i : ℕ) (c : Chosen) (end : ℕ) → 0 < n → c ≡ oneChunk i (rangeAt (l .generalFree) i) → end ≡ c .start + (n - 1) → fromPlace l n (At i) ≡ taken GeneralFree c (c .start) end l
 unfolding fromPlace
 place-taken l n i c end h e d =
     let k : rangeAt (l .generalFree) i .start + n - 1 ≡ end = omega (arith, ap (λ (x : Chosen). x .start) e) in

@@ -2,17 +2,16 @@
 ghost use mathlib.Core.Path.{_≡_};
 ghost use Prim.Native.Nat.{_+_, _≤_, _<_};
 ghost use Rattle.memory_structs.specs.Range.{addressLimit, frameSize};
-ghost use Rattle.model.specs.Lists.{at};
+ghost use Rattle.model.specs.declared.Place.the-variants.{At};
 ghost use Rattle.model.specs.Requests.{byCount, byBytes, fromPlace, framesOf, largeEnough};
 ghost use Rattle.model.specs.Store.{load};
-ghost use Rattle.tables.specs.Words.{placeOf};
 ghost use Rattle.rules.specs.Check.{Ruled, Does};
 use lists::WhichList;
 use memory_structs::ADDRESS_LIMIT;
 use memory_structs::FRAME_SIZE;
 use model::Called;
 use model::FrameAllocator;
-use tables::Found;
+use model::Place;
 
 // "Count: early form takes the first slot that is large enough, sorted form the highest chunk; the grant is that chunk's beginning."
 pub fn count_frames(a: FrameAllocator, words: &mut [u64], num_frames: u64) -> Called
@@ -23,8 +22,8 @@ pub fn count_frames(a: FrameAllocator, words: &mut [u64], num_frames: u64) -> Ca
         return rules::refused(a, 1);
     }
     match find_any_chunk(a, words, num_frames) {
-        Found::Nowhere => rules::refused(a, 14),
-        Found::At(i) => take_beginning(a, words, i, num_frames),
+        Place::Nowhere => rules::refused(a, 14),
+        Place::At(i) => take_beginning(a, words, i, num_frames),
     }
 }
 
@@ -40,9 +39,9 @@ pub fn count_bytes(a: FrameAllocator, words: &mut [u64], num_bytes: u64) -> Call
 }
 
 // The general chunk that a request for n frames is taken from.
-fn find_any_chunk(a: FrameAllocator, words: &[u64], n: u64) -> Found
+fn find_any_chunk(a: FrameAllocator, words: &[u64], n: u64) -> Place
     requires { ⌜ Ruled a (now words) ⌝ }
-    ensures { λ r. ⌜ placeOf r ≡ largeEnough (a .sorted) n (load a (now (words .entry)) .generalFree) ⌝ }
+    ensures { λ r. ⌜ r ≡ largeEnough (a .sorted) n (load a (now (words .entry)) .generalFree) ⌝ }
 {
     let list = lists::list_of(a, WhichList::GeneralFree);
     lists::find_large(list, &words[0..1024], n)
@@ -52,8 +51,8 @@ fn find_any_chunk(a: FrameAllocator, words: &[u64], n: u64) -> Found
 fn take_beginning(a: FrameAllocator, words: &mut [u64], i: usize, n: u64) -> Called
     requires { ⌜ Ruled a (now words) ⌝ }
     requires { ⌜ 0 < n ⌝ }
-    requires { ⌜ largeEnough (a .sorted) n (load a (now words) .generalFree) ≡ at i ⌝ }
-    ensures { λ r. ⌜ Does (fromPlace (load a (now (words .entry))) n (at i)) (now (words .entry)) r (now (words .exit)) ⌝ }
+    requires { ⌜ largeEnough (a .sorted) n (load a (now words) .generalFree) ≡ At i ⌝ }
+    ensures { λ r. ⌜ Does (fromPlace (load a (now (words .entry))) n (At i)) (now (words .entry)) r (now (words .exit)) ⌝ }
 {
     let chosen = taking::chunk_at(a, words, WhichList::GeneralFree, i);
     let end = chosen.start + (n - 1);

@@ -10,7 +10,7 @@ use Rattle.memory_structs.specs.Range.{range}
 use Rattle.memory_structs.specs.declared.range.FrameRange.{FrameRange}
 use Rattle.model.specs.Carving.{piece}
 use Rattle.carving.specs.declared.RangeList.{RangeList}
-use Rattle.carving.specs.Ranges.{padded, listed, pairs, rangesIn, Whole, Counted, Appended}
+use Rattle.carving.specs.Ranges.{padded, listed, rangesOf, rangesIn, Whole, Counted, Appended}
 
 set-padded : (n : ℕ) (xs : List ℕ) (v : ℕ) → length xs < n → set (padded n xs) (length xs) v ≡ padded n (xs ++ v ∷ [])
 unfolding padded
@@ -76,17 +76,17 @@ unfolding piece
 one-piece l r s e h a xs p = a xs p ∙ rw (le-ltb e s h)
 
 -- what is read back
-pairs-again : (n k : ℕ) (rs : List FrameRange) → length rs ≡ k → k ≤ n → pairs k (padded n (map (λ r. r .start) rs)) (padded n (map (λ r. r .end) rs)) ≡ rs
-unfolding pairs padded
-pairs-again n zero [] e h = refl
-pairs-again n zero (r ∷ rs) e h = absurd (omega arith)
-pairs-again n (suc k) [] e h = absurd (omega arith)
-pairs-again zero (suc k) (r ∷ rs) e h = absurd (omega arith)
-pairs-again (suc n) (suc k) (r ∷ rs) e h = ap (λ (l : List FrameRange). r ∷ l) (pairs-again n k rs (omega arith) (omega arith))
+ranges-again : (n k : ℕ) (rs : List FrameRange) → length rs ≡ k → k ≤ n → rangesOf k (padded n (map (λ r. r .start) rs)) (padded n (map (λ r. r .end) rs)) ≡ rs
+unfolding rangesOf padded
+ranges-again n zero [] e h = refl
+ranges-again n zero (r ∷ rs) e h = absurd (omega arith)
+ranges-again n (suc k) [] e h = absurd (omega arith)
+ranges-again zero (suc k) (r ∷ rs) e h = absurd (omega arith)
+ranges-again (suc n) (suc k) (r ∷ rs) e h = ap (λ (l : List FrameRange). r ∷ l) (ranges-again n k rs (omega arith) (omega arith))
 
 pub read-back : (rs : List FrameRange) → length rs ≤ 32 → rangesIn (listed rs) ≡ rs
 unfolding rangesIn listed
-read-back rs h = let e : length rs ≡ min 33 (length rs) = omega arith in pairs-again 32 (min 33 (length rs)) rs e (omega arith)
+read-back rs h = let e : length rs ≡ min 33 (length rs) = omega arith in ranges-again 32 (min 33 (length rs)) rs e (omega arith)
 
 pub listed-whole : (l : RangeList) (rs : List FrameRange) → length rs ≤ 32 → l ≡ listed rs → Whole l
 listed-whole l rs h e = record {
@@ -105,13 +105,13 @@ pub whole-length : (l : RangeList) → Whole l → length (rangesIn l) ≡ l .le
 whole-length l w = omega (arith, count l (rangesIn l) (w .is), w .few)
 
 -- the range at i, and those after it
-pub pairs-cons : (n i : ℕ) (ss es : List ℕ) → i < n → n ≤ length ss → n ≤ length es → drop i (pairs n ss es) ≡ range (getD ss i 0) (getD es i 0) ∷ drop (suc i) (pairs n ss es)
-unfolding pairs
-pairs-cons zero i ss es h p q = absurd (omega arith)
-pairs-cons (suc n) i [] es h p q = absurd (omega arith)
-pairs-cons (suc n) i (s ∷ ss) [] h p q = absurd (omega arith)
-pairs-cons (suc n) zero (s ∷ ss) (e ∷ es) h p q = refl
-pairs-cons (suc n) (suc i) (s ∷ ss) (e ∷ es) h p q = pairs-cons n i ss es (omega arith) (omega arith) (omega arith)
+pub ranges-cons : (n i : ℕ) (ss es : List ℕ) → i < n → n ≤ length ss → n ≤ length es → drop i (rangesOf n ss es) ≡ range (getD ss i 0) (getD es i 0) ∷ drop (suc i) (rangesOf n ss es)
+unfolding rangesOf
+ranges-cons zero i ss es h p q = absurd (omega arith)
+ranges-cons (suc n) i [] es h p q = absurd (omega arith)
+ranges-cons (suc n) i (s ∷ ss) [] h p q = absurd (omega arith)
+ranges-cons (suc n) zero (s ∷ ss) (e ∷ es) h p q = refl
+ranges-cons (suc n) (suc i) (s ∷ ss) (e ∷ es) h p q = ranges-cons n i ss es (omega arith) (omega arith) (omega arith)
 
 padded-length : (n : ℕ) (xs : List ℕ) → length (padded n xs) ≡ n
 unfolding padded
@@ -124,4 +124,4 @@ unfolding listed rangesIn
 range-at l w k h =
     let starts : length (l .starts) ≡ 32 = ap (λ (x : RangeList). length (x .starts)) (w .is) ∙ padded-length 32 (map (λ r. r .start) (rangesIn l)) in
     let ends : length (l .ends) ≡ 32 = ap (λ (x : RangeList). length (x .ends)) (w .is) ∙ padded-length 32 (map (λ r. r .end) (rangesIn l)) in
-    pairs-cons (l .len) k (l .starts) (l .ends) h (omega (arith, w .few)) (omega (arith, w .few)) ∙ rw (add-one k)
+    ranges-cons (l .len) k (l .starts) (l .ends) h (omega (arith, w .few)) (omega (arith, w .few)) ∙ rw (add-one k)

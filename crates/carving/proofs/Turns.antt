@@ -17,8 +17,8 @@ use Rattle.model.specs.Carving.{piece, past, walk, pieces}
 use Rattle.model.proofs.Boots.{past-from}
 use Rattle.model.proofs.Carved.{pieces-walk}
 use Rattle.carving.specs.declared.RangeList.{RangeList}
-use Rattle.carving.specs.Ranges.{listed, pairs, rangesIn, Carvable, Appended}
-use Rattle.carving.proofs.Listed.{pairs-cons}
+use Rattle.carving.specs.Ranges.{listed, rangesOf, rangesIn, Carvable, Appended}
+use Rattle.carving.proofs.Listed.{ranges-cons}
 
 -- the frame moves past an area that holds it
 pub past-held : (r : FrameRange) (s : ℕ) → r .start ≤ s → s ≤ r .end → r .end + 1 ≡ past r s
@@ -47,14 +47,14 @@ below-start r s h p = go (leb (r .start) s) (leb s (r .end)) refl refl
     go false b e f = omega (arith, leb-false (r .start) s e, past-below r s (leb-false (r .start) s e))
 
 -- no area from the last on
-pub pairs-end : (n i : ℕ) (ss es : List ℕ) → n ≤ i → drop i (pairs n ss es) ≡ []
-unfolding pairs
-pairs-end zero zero ss es h = refl
-pairs-end zero (suc i) ss es h = refl
-pairs-end (suc n) zero ss es h = absurd (omega arith)
-pairs-end (suc n) (suc i) [] es h = refl
-pairs-end (suc n) (suc i) (s ∷ ss) [] h = refl
-pairs-end (suc n) (suc i) (s ∷ ss) (e ∷ es) h = pairs-end n i ss es (omega arith)
+pub ranges-end : (n i : ℕ) (ss es : List ℕ) → n ≤ i → drop i (rangesOf n ss es) ≡ []
+unfolding rangesOf
+ranges-end zero zero ss es h = refl
+ranges-end zero (suc i) ss es h = refl
+ranges-end (suc n) zero ss es h = absurd (omega arith)
+ranges-end (suc n) (suc i) [] es h = refl
+ranges-end (suc n) (suc i) (s ∷ ss) [] h = refl
+ranges-end (suc n) (suc i) (s ∷ ss) (e ∷ es) h = ranges-end n i ss es (omega arith)
 
 any-at : (p : FrameRange → Bool) (i : ℕ) (rs ts : List FrameRange) (r : FrameRange) → anyOf p rs ≡ false → drop i rs ≡ r ∷ ts → p r ≡ false
 unfolding anyOf
@@ -92,7 +92,7 @@ module _ (reserved : RangeList) (full : (length (reserved .starts) ≡ 32) × (l
 
   area-at : (i : ℕ) → i < reserved .len → drop i rs ≡ area i ∷ drop (i + 1) rs
   unfolding rangesIn
-  area-at i h = pairs-cons (reserved .len) i (reserved .starts) (reserved .ends) h (omega (arith, ok .few, full)) (omega (arith, ok .few, full)) ∙ rw (add-one i)
+  area-at i h = ranges-cons (reserved .len) i (reserved .starts) (reserved .ends) h (omega (arith, ok .few, full)) (omega (arith, ok .few, full)) ∙ rw (add-one i)
 
   pub area-filled : (i : ℕ) → i < reserved .len → area i .start ≤ area i .end
   area-filled i h = ltb-false _ _ (any-at isEmpty i rs (drop (i + 1) rs) (area i) (ok .filled) (area-at i h))
@@ -114,7 +114,7 @@ module _ (reserved : RangeList) (full : (length (reserved .starts) ≡ 32) × (l
     unfolding walk rangesIn
     carved-end h q a xs z =
         let r = t .rest xs z in
-        a (r .ys) (r .is) ∙ ap listed (sym (r .left ∙ ap (λ (l : List FrameRange). r .ys ++ walk above l s e) (pairs-end (reserved .len) i (reserved .starts) (reserved .ends) h)))
+        a (r .ys) (r .is) ∙ ap listed (sym (r .left ∙ ap (λ (l : List FrameRange). r .ys ++ walk above l s e) (ranges-end (reserved .len) i (reserved .starts) (reserved .ends) h)))
 
     module _ (h : i < reserved .len) where
       -- what the area at i makes of what is left

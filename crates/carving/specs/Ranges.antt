@@ -22,14 +22,14 @@ unfoldable pub listed : List FrameRange → RangeList
 listed rs = record { starts = padded 32 (map (λ r. r .start) rs); ends = padded 32 (map (λ r. r .end) rs); len = min 33 (length rs) }
 
 -- the ranges that are stored
-unfoldable pub pairs : ℕ → List ℕ → List ℕ → List FrameRange
-pairs zero ss es = []
-pairs (suc n) (s ∷ ss) (e ∷ es) = range s e ∷ pairs n ss es
-pairs (suc n) (s ∷ ss) [] = []
-pairs (suc n) [] es = []
+unfoldable pub rangesOf : ℕ → List ℕ → List ℕ → List FrameRange
+rangesOf zero ss es = []
+rangesOf (suc n) (s ∷ ss) (e ∷ es) = range s e ∷ rangesOf n ss es
+rangesOf (suc n) (s ∷ ss) [] = []
+rangesOf (suc n) [] es = []
 
 unfoldable pub rangesIn : RangeList → List FrameRange
-rangesIn l = pairs (l .len) (l .starts) (l .ends)
+rangesIn l = rangesOf (l .len) (l .starts) (l .ends)
 
 -- the list with these arrays, where they are lent
 abbrev pub rangeListOf : List ℕ → List ℕ → ℕ → RangeList

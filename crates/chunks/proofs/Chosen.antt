@@ -10,7 +10,9 @@ use borrow.Author.Tests.{leb-true, leb-false}
 use Rattle.memory_structs.specs.Range.{range, size, top}
 use Rattle.memory_structs.specs.declared.range.FrameRange.{FrameRange}
 use Rattle.memory_structs.proofs.Bools.{if-cases}
-use Rattle.model.specs.Lists.{Slot, Place, nowhere, at, rangeAt}
+use Rattle.model.specs.Lists.{Slot, rangeAt}
+use Rattle.model.specs.declared.Place.{Place}
+use Rattle.model.specs.declared.Place.the-variants.{Nowhere, At}
 use Rattle.model.specs.Requests.{Found, notFound, missing, tooShort, chunks, find, inEarly, inSorted, withNext, largeEnough}
 use Rattle.model.specs.Rules.{tidy}
 use Rattle.model.proofs.Cover.{Used, Hit, first-hit, last-hit}
@@ -60,15 +62,15 @@ Choice sorted r s (chunks i k c) = Chooses sorted s (chosen i k c) (r .start) (r
 module _ (r : FrameRange) (s : List Slot) (h : r .start ≤ r .end) where
   early-choice : (q : Place) → Hit (λ c. leb (c .start) (r .start) && leb (r .end) (c .end)) s q → Choice false r s (inEarly s q)
   unfolding Choice inEarly Hit
-  early-choice nowhere a = tt
-  early-choice (at i) a =
+  early-choice Nowhere a = tt
+  early-choice (At i) a =
       let both = and-eq-true-iff _ _ .0 (a .0) in
       one-chosen false s i (r .start) (r .end) (a .1) (leb-true _ _ (both .0)) h (leb-true _ _ (both .1))
 
   sorted-choice : (q : Place) → Hit (λ c. leb (c .start) (r .start)) s q → Choice true r s (inSorted r s q)
   unfolding Choice inSorted withNext Hit
-  sorted-choice nowhere a = tt
-  sorted-choice (at i) a =
+  sorted-choice Nowhere a = tt
+  sorted-choice (At i) a =
       let from : rangeAt s i .start ≤ r .start = leb-true _ _ (a .0) in
       if-cases (Choice true r s) (ltb (rangeAt s i .end) (r .start)) (λ e. tt)
       (λ e. if-cases (Choice true r s) (leb (r .end) (rangeAt s i .end))
@@ -96,7 +98,7 @@ unfolding largeEnough
 large-hit true n s = last-hit (λ c. leb n (size c)) s
 large-hit false n s = first-hit (λ c. leb n (size c)) s
 
-module _ (sorted : Bool) (s : List Slot) (n i : ℕ) (some : 0 < n) (e : largeEnough sorted n s ≡ at i) where
+module _ (sorted : Bool) (s : List Slot) (n i : ℕ) (some : 0 < n) (e : largeEnough sorted n s ≡ At i) where
   hit : (n ≤ size (rangeAt s i)) × Used s i
   unfolding Hit
   hit = let a = subst (Hit (λ c. leb n (size c)) s) e (large-hit sorted n s) in (leb-true n (size (rangeAt s i)) (a .0), a .1)

@@ -6,7 +6,9 @@ use mathlib.Core.List.{List}
 use lib.ListN.{length}
 use Rattle.memory_structs.specs.Range.{inside}
 use Rattle.memory_structs.specs.declared.range.FrameRange.{FrameRange}
-use Rattle.model.specs.Lists.{Slot, Place, nowhere, at, firstWhere, rangeAt}
+use Rattle.model.specs.Lists.{Slot, firstWhere, rangeAt}
+use Rattle.model.specs.declared.Place.{Place}
+use Rattle.model.specs.declared.Place.the-variants.{Nowhere, At}
 use Rattle.model.specs.Requests.{notFound, chunks, find, inEarly}
 use Rattle.model.proofs.Cover.{Hit, first-hit}
 use Rattle.model.proofs.Growth.{used-below}
@@ -14,7 +16,7 @@ use Rattle.early.specs.Slots.{wants}
 use Rattle.early.specs.declared.Wanted.the-variants.{Holding}
 
 -- a place that a search answers is one of the list's
-pub first-bound : (p : FrameRange → Bool) (s : List Slot) (i : ℕ) → at i ≡ firstWhere p s → i < length s
+pub first-bound : (p : FrameRange → Bool) (s : List Slot) (i : ℕ) → At i ≡ firstWhere p s → i < length s
 unfolding Hit
 first-bound p s i e = used-below s i (subst (Hit p s) (sym e) (first-hit p s) .1)
 
@@ -24,10 +26,10 @@ module _ (r x : FrameRange) (e : x ≡ r) (s : List Slot) where
   unfolding wants find
   placed q h = ap (inEarly s) (h ∙ ap (λ (y : FrameRange). firstWhere (λ c. inside c y) s) e)
 
-  pub slot-holds : (i : ℕ) → at i ≡ firstWhere (wants (Holding x)) s → chunks i 1 (rangeAt s i) ≡ find false r s
+  pub slot-holds : (i : ℕ) → At i ≡ firstWhere (wants (Holding x)) s → chunks i 1 (rangeAt s i) ≡ find false r s
   unfolding inEarly
-  slot-holds i h = placed (at i) h
+  slot-holds i h = placed (At i) h
 
-  pub none-holds : nowhere ≡ firstWhere (wants (Holding x)) s → notFound ≡ find false r s
+  pub none-holds : Nowhere ≡ firstWhere (wants (Holding x)) s → notFound ≡ find false r s
   unfolding inEarly
-  none-holds h = placed nowhere h
+  none-holds h = placed Nowhere h

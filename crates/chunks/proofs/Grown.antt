@@ -12,7 +12,9 @@ use Rattle.memory_structs.specs.Choice.{if_then_else_}
 use Rattle.memory_structs.specs.Range.{range, inside}
 use Rattle.memory_structs.specs.declared.range.FrameRange.{FrameRange}
 use Rattle.memory_structs.proofs.Bools.{both, if-cases}
-use Rattle.model.specs.Lists.{Slot, unused, used, entries, Place, nowhere, at, firstWhere, lastWhere, later, orElse, rangeAt, insert, insertEarly, insertSorted, remove, removeOne, replaceAt, bound}
+use Rattle.model.specs.Lists.{Slot, unused, used, entries, firstWhere, lastWhere, later, orElse, rangeAt, insert, insertEarly, insertSorted, remove, removeOne, replaceAt, bound}
+use Rattle.model.specs.declared.Place.{Place}
+use Rattle.model.specs.declared.Place.the-variants.{Nowhere, At}
 use Rattle.model.specs.Requests.{notFound, missing, chunks, find, inEarly, inSorted, withNext, grantFrom, putBefore, putAfter, entriesAfter}
 use Rattle.model.specs.Rules.{tidy}
 use Rattle.model.proofs.Cover.{count, if-two, Used, Hit, last-hit}
@@ -22,18 +24,18 @@ use Rattle.model.proofs.Ruled.{tidy-is}
 
 -- the place is that of r in t, and without r the slots are s
 unfoldable Stands : Bool → FrameRange → List Slot → List Slot → Place → Type 0
-Stands sorted r s t nowhere = ⊥
-Stands sorted r s t (at i) = (rangeAt t i ≡ r) × (removeOne sorted i t ≡ s)
+Stands sorted r s t Nowhere = ⊥
+Stands sorted r s t (At i) = (rangeAt t i ≡ r) × (removeOne sorted i t ≡ s)
 
 later-stands : (sorted : Bool) (r x : FrameRange) (s t : List Slot) (q : Place) → Stands sorted r s t q → Stands sorted r (used x ∷ s) (used x ∷ t) (later q)
 unfolding Stands later rangeAt removeOne
-later-stands sorted r x s t nowhere h = absurd h
-later-stands sorted r x s t (at i) h = (h .0, ap (λ (l : List Slot). used x ∷ l) (h .1))
+later-stands sorted r x s t Nowhere h = absurd h
+later-stands sorted r x s t (At i) h = (h .0, ap (λ (l : List Slot). used x ∷ l) (h .1))
 
 or-stands : (sorted : Bool) (r : FrameRange) (s t : List Slot) (q o : Place) → Stands sorted r s t q → Stands sorted r s t (orElse q o)
 unfolding Stands orElse
-or-stands sorted r s t nowhere o h = absurd h
-or-stands sorted r s t (at i) o h = h
+or-stands sorted r s t Nowhere o h = absurd h
+or-stands sorted r s t (At i) o h = h
 
 -- sorted form: the range that went in is the last that starts at or below its start
 sorted-stands : (r : FrameRange) (s : List Slot) (n : ℕ) → Rising n s → Stands true r s (insertSorted r s) (lastWhere (λ c. leb (c .start) (r .start)) (insertSorted r s))
@@ -45,17 +47,17 @@ sorted-stands r (used x ∷ s) n a =
     (λ e. let above : r .start < x .start = ltb-true _ _ e in
     rw (none-above (x .start) (r .start) s (a .1) above, lt-leb (x .start) (r .start) above, le-leb (r .start) (r .start) (omega arith)) (refl, refl))
     (λ e. or-stands true r (used x ∷ s) (used x ∷ insertSorted r s) (later (lastWhere (λ c. leb (c .start) (r .start)) (insertSorted r s)))
-    (if leb (x .start) (r .start) then at 0 else nowhere)
+    (if leb (x .start) (r .start) then At 0 else Nowhere)
     (later-stands true r x s (insertSorted r s) (lastWhere (λ c. leb (c .start) (r .start)) (insertSorted r s)) (sorted-stands r s (x .start) (a .1))))
 
 -- early form: where nothing held it before, the range that went in is the first that holds it
-none-first : (b : Bool) (q : Place) → (if b then at 0 else later q) ≡ nowhere → (b ≡ false) × (q ≡ nowhere)
+none-first : (b : Bool) (q : Place) → (if b then At 0 else later q) ≡ Nowhere → (b ≡ false) × (q ≡ Nowhere)
 unfolding later
 none-first true q e = let w : _≡_ {A = ℕ} 0 1 = cc in absurd (omega arith)
-none-first false nowhere e = (refl, refl)
-none-first false (at i) e = let w : _≡_ {A = ℕ} 0 1 = cc in absurd (omega arith)
+none-first false Nowhere e = (refl, refl)
+none-first false (At i) e = let w : _≡_ {A = ℕ} 0 1 = cc in absurd (omega arith)
 
-early-stands : (p : FrameRange → Bool) (r : FrameRange) → p r ≡ true → (s : List Slot) → count s < length s → firstWhere p s ≡ nowhere
+early-stands : (p : FrameRange → Bool) (r : FrameRange) → p r ≡ true → (s : List Slot) → count s < length s → firstWhere p s ≡ Nowhere
     → Stands false r s (insertEarly r s) (firstWhere p (insertEarly r s))
 unfolding Stands firstWhere insertEarly later rangeAt removeOne entries
 early-stands p r e [] h n = absurd (omega arith)
@@ -64,10 +66,10 @@ early-stands p r e (used x ∷ s) h n =
     let m = none-first (p x) (firstWhere p s) n in
     rw (m .0) (later-stands false r x s (insertEarly r s) (firstWhere p (insertEarly r s)) (early-stands p r e s (omega arith) (m .1)))
 
-none-inside : (s : List Slot) (q : Place) → inEarly s q ≡ notFound → q ≡ nowhere
+none-inside : (s : List Slot) (q : Place) → inEarly s q ≡ notFound → q ≡ Nowhere
 unfolding inEarly
-none-inside s nowhere e = refl
-none-inside s (at i) e = let w : _≡_ {A = ℕ} 0 1 = cc in absurd (omega arith)
+none-inside s Nowhere e = refl
+none-inside s (At i) e = let w : _≡_ {A = ℕ} 0 1 = cc in absurd (omega arith)
 
 -- a grant of the whole range at i
 whole-granted : (sorted : Bool) (i : ℕ) (r : FrameRange) (t : List Slot) → grantFrom sorted i 1 r r t ≡ removeOne sorted i t
@@ -102,13 +104,13 @@ grown-at sorted r s few i found out = record {
 module _ (r : FrameRange) (s : List Slot) (h : r .start ≤ r .end) where
   sorted-grown : count s ≤ bound true → (q : Place) → q ≡ lastWhere (λ c. leb (c .start) (r .start)) (insertSorted r s) → Stands true r s (insertSorted r s) q → WholeGrown true r s
   unfolding Stands find inSorted insert
-  sorted-grown few nowhere e a = absurd a
-  sorted-grown few (at i) e a = grown-at true r s few i (rw (sym e, a .0, le-ltb (r .end) (r .start) h, le-leb (r .end) (r .end) (omega arith))) (a .1)
+  sorted-grown few Nowhere e a = absurd a
+  sorted-grown few (At i) e a = grown-at true r s few i (rw (sym e, a .0, le-ltb (r .end) (r .start) h, le-leb (r .end) (r .end) (omega arith))) (a .1)
 
   early-grown : count s ≤ bound false → (q : Place) → q ≡ firstWhere (λ c. inside c r) (insertEarly r s) → Stands false r s (insertEarly r s) q → WholeGrown false r s
   unfolding Stands find inEarly insert
-  early-grown few nowhere e a = absurd a
-  early-grown few (at i) e a = grown-at false r s few i (rw (sym e, a .0)) (a .1)
+  early-grown few Nowhere e a = absurd a
+  early-grown few (At i) e a = grown-at false r s few i (rw (sym e, a .0)) (a .1)
 
 -- early form has room for it; sorted form needs none, since what went in is taken out
 pub whole-grown : (sorted : Bool) (r : FrameRange) (s : List Slot) → tidy sorted s ≡ true → (sorted ≡ false → length (entries s) < 32)
@@ -215,8 +217,8 @@ tail-grown r s f n t h = go (lastWhere (λ c. leb (c .start) (r .start)) s) refl
     g = range f (f + n - 1)
 
     go : (q : Place) → lastWhere (λ c. leb (c .start) (r .start)) s ≡ q → Hit (λ c. leb (c .start) (r .start)) s q → inSorted r s q ≡ missing f n → TailGrown r s g
-    go nowhere e u h = let w : _≡_ {A = ℕ} 0 1 = cc in absurd (omega arith)
-    go (at i) e u h =
+    go Nowhere e u h = let w : _≡_ {A = ℕ} 0 1 = cc in absurd (omega arith)
+    go (At i) e u h =
         let w : Tail r s i f n = missing-tail r s i f n h in
         let before : rangeAt s i .start ≤ r .start = leb-true (rangeAt s i .start) (r .start) (u .0) in
         let last : length s ≡ suc i = omega (arith, w .length, used-below s i (u .1)) in

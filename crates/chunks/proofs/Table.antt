@@ -9,7 +9,9 @@ use lib.Dec.{leb}
 use borrow.Author.Tests.{le-leb, lt-leb, le-ltb, lt-ltb, eq-eqb, ne-eqb}
 use Rattle.memory_structs.specs.Range.{range}
 use Rattle.memory_structs.specs.declared.range.FrameRange.{FrameRange}
-use Rattle.model.specs.Lists.{Slot, at, nowhere, Place, rangeAt, lastWhere}
+use Rattle.model.specs.Lists.{Slot, rangeAt, lastWhere}
+use Rattle.model.specs.declared.Place.{Place}
+use Rattle.model.specs.declared.Place.the-variants.{Nowhere, At}
 use Rattle.model.specs.Requests.{notFound, missing, tooShort, chunks, find, inSorted, withNext}
 use Rattle.model.specs.Store.{tableSlots}
 use Rattle.model.proofs.Stored.{table-length}
@@ -41,16 +43,16 @@ module _ (n i e : ℕ) (c : FrameRange) (ws : List ℕ) where
 
 -- the pair at i is the highest that starts at or below the request
 module _ (n i : ℕ) (r : FrameRange) (ws : List ℕ) (h : i < n) where
-  pub below : pairAt ws i .end < r .start → notFound ≡ inSorted r (tableSlots n ws) (at i)
+  pub below : pairAt ws i .end < r .start → notFound ≡ inSorted r (tableSlots n ws) (At i)
   unfolding inSorted
   below g = rw (sym (range-at n i ws h), lt-ltb (pairAt ws i .end) (r .start) g)
 
-  pub holds-all : r .start ≤ pairAt ws i .end → r .end ≤ pairAt ws i .end → chunks i 1 (pairAt ws i) ≡ inSorted r (tableSlots n ws) (at i)
+  pub holds-all : r .start ≤ pairAt ws i .end → r .end ≤ pairAt ws i .end → chunks i 1 (pairAt ws i) ≡ inSorted r (tableSlots n ws) (At i)
   unfolding inSorted
   holds-all g k = rw (sym (range-at n i ws h), le-ltb (pairAt ws i .end) (r .start) g, le-leb (r .end) (pairAt ws i .end) k)
 
   pub holds-first : r .start ≤ pairAt ws i .end → pairAt ws i .end < r .end
-      → withNext (tableSlots n ws) i (r .end) (pairAt ws i) (rangeAt (tableSlots n ws) (suc i)) ≡ inSorted r (tableSlots n ws) (at i)
+      → withNext (tableSlots n ws) i (r .end) (pairAt ws i) (rangeAt (tableSlots n ws) (suc i)) ≡ inSorted r (tableSlots n ws) (At i)
   unfolding inSorted
   holds-first g k = rw (sym (range-at n i ws h), le-ltb (pairAt ws i .end) (r .start) g, lt-leb (r .end) (pairAt ws i .end) k)
 
@@ -59,6 +61,6 @@ pub found-in : (r : FrameRange) (s : List Slot) (q : Place) → q ≡ lastWhere 
 unfolding find
 found-in r s q e = ap (inSorted r s) e
 
-pub nothing-below : (r : FrameRange) (s : List Slot) → nowhere ≡ lastWhere (λ c. leb (c .start) (r .start)) s → notFound ≡ find true r s
+pub nothing-below : (r : FrameRange) (s : List Slot) → Nowhere ≡ lastWhere (λ c. leb (c .start) (r .start)) s → notFound ≡ find true r s
 unfolding inSorted
-nothing-below r s e = found-in r s nowhere e
+nothing-below r s e = found-in r s Nowhere e

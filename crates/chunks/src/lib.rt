@@ -5,7 +5,8 @@ ghost use mathlib.Core.Bool.{true};
 ghost use Prim.Native.Nat.{suc, _*_, _≤_, _<_};
 ghost use lib.ListN.{length};
 ghost use Rattle.memory_structs.specs.Range.{range};
-ghost use Rattle.model.specs.Lists.{at, rangeAt};
+ghost use Rattle.model.specs.Lists.{rangeAt};
+ghost use Rattle.model.specs.declared.Place.the-variants.{At};
 ghost use Rattle.model.specs.Rules.{rising, tidy};
 ghost use Rattle.model.specs.Store.{tableSlots};
 ghost use Rattle.model.specs.Requests as model;
@@ -15,7 +16,7 @@ use early::Wanted;
 use grants::Chosen;
 use lists::OneList;
 use memory_structs::FrameRange;
-use tables::Found;
+use model::Place;
 
 // "*missing* (first absent frame, how many absent)"
 pub struct Absent {
@@ -44,8 +45,8 @@ pub fn find_specific_chunk(l: OneList, t: &[u64], start: u64, end: u64) -> Searc
     }
     let e = l.early;
     match early::first_wanted(e, Wanted::Holding(FrameRange::new(start, end))) {
-        Found::At(i) => one_chunk(i, e.starts[i], e.ends[i]),
-        Found::Nowhere => Search::NotFound,
+        Place::At(i) => one_chunk(i, e.starts[i], e.ends[i]),
+        Place::Nowhere => Search::NotFound,
     }
 }
 
@@ -56,15 +57,15 @@ fn find_in_table(t: &[u64], len: usize, start: u64, end: u64) -> Search
     ensures { λ r. ⌜ foundOf r ≡ model.find true (range start end) (tableSlots len (now (t .entry))) ⌝ }
 {
     match tables::highest_at_or_below(t, len, start) {
-        Found::At(i) => from_chunk(t, len, i, start, end),
-        Found::Nowhere => Search::NotFound,
+        Place::At(i) => from_chunk(t, len, i, start, end),
+        Place::Nowhere => Search::NotFound,
     }
 }
 
 // The pair at i is the highest that starts at or below the request.
 fn from_chunk(t: &[u64], len: usize, i: usize, start: u64, end: u64) -> Search
     requires { ⌜ (2 * len ≤ length (now t)) × (i < len) ⌝ }
-    ensures { λ r. ⌜ foundOf r ≡ model.inSorted (range start end) (tableSlots len (now (t .entry))) (at i) ⌝ }
+    ensures { λ r. ⌜ foundOf r ≡ model.inSorted (range start end) (tableSlots len (now (t .entry))) (At i) ⌝ }
 {
     let chunk_start = t[2 * i];
     let chunk_end = t[2 * i + 1];

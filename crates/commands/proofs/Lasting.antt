@@ -13,10 +13,10 @@ use Rattle.model.specs.declared.FrameAllocator.{FrameAllocator}
 use Rattle.rules.specs.Check.{checked, Ruled, Does}
 use Rattle.rules.proofs.Numbers.{checked-ruled, short-call, refused-call, accepted-call}
 use Rattle.rules.proofs.Going.{call-keeps}
-use Rattle.commands.specs.declared.Command.{Command}
+use Rattle.commands.specs.declared.RunCall.{RunCall}
 use Rattle.commands.specs.declared.Decoded.{Decoded}
 use Rattle.commands.specs.declared.Decoded.the-variants.{Make, Damaged}
-use Rattle.commands.specs.Commands.{listed, decodedBoot, decodedByteBoot, decoded, InList}
+use Rattle.commands.specs.Commands.{areListed, decodedBoot, decodedByteBoot, decoded, InList}
 
 -- ---- the test of the rules, once for all calls
 
@@ -59,8 +59,8 @@ Sound n Damaged = Unit {0}
 sound : (n what x y : ℕ) → Sound n (decoded n what x y)
 unfolding decoded decodedBoot decodedByteBoot Sound InList
 sound n what x y =
-    if-cases (Sound n) (eqb what 0) (λ e. if-cases (Sound n) (listed n x y) (λ l. l) (λ l. tt))
-    (λ e. if-cases (Sound n) (eqb what 1) (λ e. if-cases (Sound n) (listed n x y) (λ l. l) (λ l. tt))
+    if-cases (Sound n) (eqb what 0) (λ e. if-cases (Sound n) (areListed n x y) (λ l. l) (λ l. tt))
+    (λ e. if-cases (Sound n) (eqb what 1) (λ e. if-cases (Sound n) (areListed n x y) (λ l. l) (λ l. tt))
     (λ e. if-cases (Sound n) (eqb what 2) (λ e. tt)
     (λ e. if-cases (Sound n) (eqb what 3) (λ e. tt)
     (λ e. if-cases (Sound n) (eqb what 4) (λ e. tt)
@@ -72,6 +72,6 @@ sound n what x y =
     (λ e. if-cases (Sound n) (eqb what 10) (λ e. tt)
     (λ e. if-cases (Sound n) (eqb what 11) (λ e. tt) (λ e. tt))))))))))))
 
-pub decoded-in-list : (n what x y : ℕ) (c : Command) → Make c ≡ decoded n what x y → InList n c
+pub decoded-in-list : (n what x y : ℕ) (c : RunCall) → Make c ≡ decoded n what x y → InList n c
 unfolding Sound
 decoded-in-list n what x y c e = subst (Sound n) (sym e) (sound n what x y)

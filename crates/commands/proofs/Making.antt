@@ -15,7 +15,7 @@ use Rattle.model.specs.declared.Kind.{Kind}
 use Rattle.model.specs.declared.Kind.the-variants.{General, Reserved}
 use Rattle.model.specs.declared.FrameAllocator.{FrameAllocator}
 use Rattle.model.proofs.Unchanged.{Question, general-total, reserved-total, held, question-unchanged}
-use Rattle.rules.specs.Check.{checked, refusedWith, Does}
+use Rattle.rules.specs.Check.{checked, answeredWith, refusedWith, Does}
 use Rattle.rules.proofs.Numbers.{short-call, gives-refused}
 use Rattle.rules.proofs.Going.{gives-does}
 use Rattle.held_list.specs.Listed.{Listed}
@@ -23,25 +23,25 @@ use Rattle.queries.proofs.Asked.{answers-going, held-going}
 use Rattle.requests.specs.Asked as asked
 use Rattle.requests.specs.declared.Request.{Request}
 use Rattle.requests.specs.declared.Request.the-variants.{Frames, Bytes, FramesAt, BytesAt, GeneralFramesAt}
-use Rattle.commands.specs.declared.Command.{Command}
-use Rattle.commands.specs.declared.Command.the-variants.{Boot, BootBytes, Sort, Allocate, Return, KindOf, FreeTotal, HeldList}
-use Rattle.commands.specs.Commands.{listed, InList, areasAt, callOf, answeredWith}
+use Rattle.commands.specs.declared.RunCall.{RunCall}
+use Rattle.commands.specs.declared.RunCall.the-variants.{Boot, BootBytes, Sort, Allocate, Return, KindOf, FreeTotal, HeldList}
+use Rattle.commands.specs.Commands.{areListed, InList, areasAt, callIn}
 use Rattle.commands.specs.Made.{numberFor, Goes, Made}
 
 -- ---- a boot's areas: the part of the list from one word to another
 
-module _ (n first count : ℕ) (command : Command) where
-  pub boot-in-list : command ≡ Boot first count → InList n command → listed n first count ≡ true
+module _ (n first count : ℕ) (command : RunCall) where
+  pub boot-in-list : command ≡ Boot first count → InList n command → areListed n first count ≡ true
   unfolding InList
-  boot-in-list e h = subst (λ (x : Command). InList n x) e h
+  boot-in-list e h = subst (λ (x : RunCall). InList n x) e h
 
-  pub byte-boot-in-list : command ≡ BootBytes first count → InList n command → listed n first count ≡ true
+  pub byte-boot-in-list : command ≡ BootBytes first count → InList n command → areListed n first count ≡ true
   unfolding InList
-  byte-boot-in-list e h = subst (λ (x : Command). InList n x) e h
+  byte-boot-in-list e h = subst (λ (x : RunCall). InList n x) e h
 
-module _ (n first count : ℕ) (e : listed n first count ≡ true) where
+module _ (n first count : ℕ) (e : areListed n first count ≡ true) where
   pub areas-end : 3 * first + 3 * count ≤ n
-  unfolding listed
+  unfolding areListed
   areas-end = omega (arith, leb-true (3 * (first + count)) n e)
 
 pub areas-part : (first count : ℕ) (areas : List ℕ) → take (3 * first + 3 * count - 3 * first) (drop (3 * first) areas) ≡ areasAt first count areas
@@ -53,8 +53,8 @@ areas-part first count areas =
 -- ---- the number that decides
 
 -- only a held list has a buffer
-pub other-number : (areas : List ℕ) (buffer n : ℕ) (command : Command) → (command ≡ HeldList → ⊥) → n ≡ numberFor (callOf areas buffer command) n
-unfolding numberFor callOf shortBuffer
+pub other-number : (areas : List ℕ) (buffer n : ℕ) (command : RunCall) → (command ≡ HeldList → ⊥) → n ≡ numberFor (callIn areas buffer command) n
+unfolding numberFor callIn shortBuffer
 other-number areas buffer n (Boot first count) q = refl
 other-number areas buffer n (BootBytes first count) q = refl
 other-number areas buffer n Sort q = refl
@@ -68,13 +68,13 @@ other-number areas buffer n (KindOf r) q = refl
 other-number areas buffer n (FreeTotal k) q = refl
 other-number areas buffer n HeldList q = absurd (q refl)
 
-module _ (areas : List ℕ) (buffer n : ℕ) (command : Command) (e : command ≡ HeldList) where
-  pub short-number : buffer < 2048 → 3 ≡ numberFor (callOf areas buffer command) n
-  unfolding numberFor callOf shortBuffer
+module _ (areas : List ℕ) (buffer n : ℕ) (command : RunCall) (e : command ≡ HeldList) where
+  pub short-number : buffer < 2048 → 3 ≡ numberFor (callIn areas buffer command) n
+  unfolding numberFor callIn shortBuffer
   short-number h = rw (e, lt-ltb buffer 2048 h)
 
-  pub long-number : 2048 ≤ buffer → n ≡ numberFor (callOf areas buffer command) n
-  unfolding numberFor callOf shortBuffer
+  pub long-number : 2048 ≤ buffer → n ≡ numberFor (callIn areas buffer command) n
+  unfolding numberFor callIn shortBuffer
   long-number h = rw (e, le-ltb buffer 2048 h)
 
 -- 0 lets the call go on
@@ -153,9 +153,9 @@ made-held a ws before g x after d called e =
       buffer = record { listed = λ z. h .buffer; kept = λ z. absurd (z refl) };
     }
 
-pub long-held : (areas before : List ℕ) (command : Command) {a : FrameAllocator} {ws : List ℕ} → command ≡ HeldList → Goes (callOf areas (length before) command) a ws → 2048 ≤ length before
-unfolding callOf
-long-held areas before command {a = a} {ws = ws} e g = long-buffer (length before) (subst (λ (x : Command). Goes (callOf areas (length before) x) a ws) e g .long)
+pub long-held : (areas before : List ℕ) (command : RunCall) {a : FrameAllocator} {ws : List ℕ} → command ≡ HeldList → Goes (callIn areas (length before) command) a ws → 2048 ≤ length before
+unfolding callIn
+long-held areas before command {a = a} {ws = ws} e g = long-buffer (length before) (subst (λ (x : RunCall). Goes (callIn areas (length before) x) a ws) e g .long)
 
 -- no request is a held list
 request-other : (r : Request) (n : ℕ) → asked.callOf r ≡ heldCall n → ⊥
@@ -166,13 +166,13 @@ request-other (BytesAt x b) n e = let w : _≡_ {A = ℕ} 0 1 = cc in omega arit
 request-other (GeneralFramesAt f m) n e = let w : _≡_ {A = ℕ} 0 1 = cc in omega arith
 
 -- the call of a command that is known
-pub made-as : (areas : List ℕ) {command known : Command} {a : FrameAllocator} {ws before : List ℕ} → command ≡ known → Goes (callOf areas (length before) command) a ws → {called : Called} {wordsAfter after : List ℕ} →
-    (Goes (callOf areas (length before) known) a ws → Made (callOf areas (length before) known) a ws before called wordsAfter after) → Made (callOf areas (length before) command) a ws before called wordsAfter after
+pub made-as : (areas : List ℕ) {command known : RunCall} {a : FrameAllocator} {ws before : List ℕ} → command ≡ known → Goes (callIn areas (length before) command) a ws → {called : Called} {wordsAfter after : List ℕ} →
+    (Goes (callIn areas (length before) known) a ws → Made (callIn areas (length before) known) a ws before called wordsAfter after) → Made (callIn areas (length before) command) a ws before called wordsAfter after
 made-as areas {command} {known} {a} {ws} {before} e g {called} {wordsAfter} {after} made =
-    subst (λ (x : Command). Made (callOf areas (length before) x) a ws before called wordsAfter after) (sym e)
-    (made (subst (λ (x : Command). Goes (callOf areas (length before) x) a ws) e g))
+    subst (λ (x : RunCall). Made (callIn areas (length before) x) a ws before called wordsAfter after) (sym e)
+    (made (subst (λ (x : RunCall). Goes (callIn areas (length before) x) a ws) e g))
 
-pub made-request : (areas : List ℕ) (command : Command) (r : Request) (a : FrameAllocator) (ws before : List ℕ) → command ≡ Allocate r → Goes (callOf areas (length before) command) a ws → {called : Called} {after : List ℕ} →
-    Does (answer (asked.callOf r) (load a ws)) ws called after → Made (callOf areas (length before) command) a ws before called after before
-unfolding callOf
+pub made-request : (areas : List ℕ) (command : RunCall) (r : Request) (a : FrameAllocator) (ws before : List ℕ) → command ≡ Allocate r → Goes (callIn areas (length before) command) a ws → {called : Called} {after : List ℕ} →
+    Does (answer (asked.callOf r) (load a ws)) ws called after → Made (callIn areas (length before) command) a ws before called after before
+unfolding callIn
 made-request areas command r a ws before e g d = made-as areas e g (λ h. made-does (asked.callOf r) a ws before (request-other r (length before)) h d)

@@ -8,26 +8,23 @@ use lib.Dec.{leb, eqb}
 use Rattle.memory_structs.specs.Choice.{if_then_else_}
 use Rattle.memory_structs.specs.Range.{range}
 use Rattle.model.specs.Calls.{Call, bootCall, bootBytesCall, sortCall, returnCall, kindCall, totalCall, heldCall}
-use Rattle.model.specs.declared.Answer.{Answer}
-use Rattle.model.specs.declared.Called.{Called}
-use Rattle.model.specs.declared.FrameAllocator.{FrameAllocator}
 use Rattle.areas.specs.Areas.{kindOfWord, areasIn, byteAreasIn}
 use Rattle.requests.specs.Asked as asked
 use Rattle.requests.specs.declared.Request.the-variants.{Frames, Bytes, FramesAt, BytesAt, GeneralFramesAt}
-use Rattle.commands.specs.declared.Command.{Command}
-use Rattle.commands.specs.declared.Command.the-variants.{Boot, BootBytes, Sort, Allocate, Return, KindOf, FreeTotal, HeldList}
+use Rattle.commands.specs.declared.RunCall.{RunCall}
+use Rattle.commands.specs.declared.RunCall.the-variants.{Boot, BootBytes, Sort, Allocate, Return, KindOf, FreeTotal, HeldList}
 use Rattle.commands.specs.declared.Decoded.{Decoded}
 use Rattle.commands.specs.declared.Decoded.the-variants.{Make, Damaged}
 
 -- so many areas from this one on, three words each, stand in a list of n words
-unfoldable pub listed : (n first count : ℕ) → Bool
-listed n first count = leb (3 * (first + count)) n
+unfoldable pub areListed : (n first count : ℕ) → Bool
+areListed n first count = leb (3 * (first + count)) n
 
 unfoldable pub decodedBoot : (n first count : ℕ) → Decoded
-decodedBoot n first count = if listed n first count then Make (Boot first count) else Damaged
+decodedBoot n first count = if areListed n first count then Make (Boot first count) else Damaged
 
 unfoldable pub decodedByteBoot : (n first count : ℕ) → Decoded
-decodedByteBoot n first count = if listed n first count then Make (BootBytes first count) else Damaged
+decodedByteBoot n first count = if areListed n first count then Make (BootBytes first count) else Damaged
 
 -- three words, beside a list of areas of n words
 unfoldable pub decoded : (n what x y : ℕ) → Decoded
@@ -49,28 +46,24 @@ decoded n what x y =
 unfoldable pub areasAt : (first count : ℕ) → List ℕ → List ℕ
 areasAt first count areas = take (3 * count) (drop (3 * first) areas)
 
--- document 01's call that a command is, beside the lent list of areas and a held-list buffer of so many words
-unfoldable pub callOf : (areas : List ℕ) (buffer : ℕ) → Command → Call
-callOf areas buffer (Boot first count) = bootCall (areasIn (areasAt first count areas))
-callOf areas buffer (BootBytes first count) = bootBytesCall (byteAreasIn (areasAt first count areas))
-callOf areas buffer Sort = sortCall
-callOf areas buffer (Allocate r) = asked.callOf r
-callOf areas buffer (Return r) = returnCall r
-callOf areas buffer (KindOf r) = kindCall r
-callOf areas buffer (FreeTotal k) = totalCall k
-callOf areas buffer HeldList = heldCall buffer
+-- document 01's call that a call of a run is, beside the lent list of areas and a held-list buffer of so many words
+unfoldable pub callIn : (areas : List ℕ) (buffer : ℕ) → RunCall → Call
+callIn areas buffer (Boot first count) = bootCall (areasIn (areasAt first count areas))
+callIn areas buffer (BootBytes first count) = bootBytesCall (byteAreasIn (areasAt first count areas))
+callIn areas buffer Sort = sortCall
+callIn areas buffer (Allocate r) = asked.callOf r
+callIn areas buffer (Return r) = returnCall r
+callIn areas buffer (KindOf r) = kindCall r
+callIn areas buffer (FreeTotal k) = totalCall k
+callIn areas buffer HeldList = heldCall buffer
 
 -- a boot's areas are all in the list of n words; no other call has any
-unfoldable pub InList : ℕ → Command → Type 0
-InList n (Boot first count) = listed n first count ≡ true
-InList n (BootBytes first count) = listed n first count ≡ true
+unfoldable pub InList : ℕ → RunCall → Type 0
+InList n (Boot first count) = areListed n first count ≡ true
+InList n (BootBytes first count) = areListed n first count ≡ true
 InList n Sort = Unit {0}
 InList n (Allocate r) = Unit {0}
 InList n (Return r) = Unit {0}
 InList n (KindOf r) = Unit {0}
 InList n (FreeTotal k) = Unit {0}
 InList n HeldList = Unit {0}
-
--- a question's answer, beside the record as it was
-abbrev pub answeredWith : Answer → FrameAllocator → Called
-answeredWith x a = record { answer = x; allocator = a }

@@ -5,10 +5,10 @@ ghost use mathlib.Core.List.{List};
 ghost use Prim.Native.Nat.{ℕ};
 ghost use lib.ListN.{length};
 ghost use Rattle.model.specs.Calls.{bootCall, bootBytesCall, Gives};
-ghost use Rattle.rules.specs.Check.{checked};
+ghost use Rattle.rules.specs.Check.{checked, answeredWith};
 ghost use Rattle.areas.specs.Areas.{areasIn, byteAreasIn};
 ghost use Rattle.commands.specs.Commands as spec;
-ghost use Rattle.commands.specs.Commands.{InList, areasAt, callOf};
+ghost use Rattle.commands.specs.Commands.{InList, areasAt, callIn};
 ghost use Rattle.commands.specs.Made.{numberFor, Goes, Made};
 use memory_structs::FrameRange;
 use model::Answer;
@@ -17,8 +17,8 @@ use model::FrameAllocator;
 use model::Kind;
 use requests::Request;
 
-// A call that can be made: every call of the mission's demand 3.
-pub enum Command {
+// A call of a run: every call of demand 3 is one.
+pub enum RunCall {
     // So many areas of the lent list, from this one on.
     Boot(usize, usize),
     BootBytes(usize, usize),
@@ -32,7 +32,7 @@ pub enum Command {
 
 // What three words are.
 pub enum Decoded {
-    Make(Command),
+    Make(RunCall),
     Damaged,
 }
 
@@ -43,25 +43,25 @@ pub fn decode(areas_len: usize, what: u64, x: u64, y: u64) -> Decoded
     match what {
         0 => decode_boot(areas_len, x, y),
         1 => decode_byte_boot(areas_len, x, y),
-        2 => Decoded::Make(Command::Sort),
-        3 => Decoded::Make(Command::Allocate(Request::Frames { num_frames: x })),
-        4 => Decoded::Make(Command::Allocate(Request::Bytes { num_bytes: x })),
-        5 => Decoded::Make(Command::Allocate(Request::FramesAt {
+        2 => Decoded::Make(RunCall::Sort),
+        3 => Decoded::Make(RunCall::Allocate(Request::Frames { num_frames: x })),
+        4 => Decoded::Make(RunCall::Allocate(Request::Bytes { num_bytes: x })),
+        5 => Decoded::Make(RunCall::Allocate(Request::FramesAt {
             frame: x,
             num_frames: y,
         })),
-        6 => Decoded::Make(Command::Allocate(Request::BytesAt {
+        6 => Decoded::Make(RunCall::Allocate(Request::BytesAt {
             address: x,
             num_bytes: y,
         })),
-        7 => Decoded::Make(Command::Allocate(Request::GeneralFramesAt {
+        7 => Decoded::Make(RunCall::Allocate(Request::GeneralFramesAt {
             frame: x,
             num_frames: y,
         })),
-        8 => Decoded::Make(Command::Return(FrameRange::new(x, y))),
-        9 => Decoded::Make(Command::KindOf(FrameRange::new(x, y))),
-        10 => Decoded::Make(Command::FreeTotal(areas::kind_of(x))),
-        11 => Decoded::Make(Command::HeldList),
+        8 => Decoded::Make(RunCall::Return(FrameRange::new(x, y))),
+        9 => Decoded::Make(RunCall::KindOf(FrameRange::new(x, y))),
+        10 => Decoded::Make(RunCall::FreeTotal(areas::kind_of(x))),
+        11 => Decoded::Make(RunCall::HeldList),
         _ => Decoded::Damaged,
     }
 }
@@ -71,7 +71,7 @@ fn decode_boot(areas_len: usize, first: u64, count: u64) -> Decoded
     ensures { λ r. ⌜ r ≡ spec.decodedBoot «areas_len» first count ⌝ }
 {
     if are_listed(areas_len, first, count) {
-        return Decoded::Make(Command::Boot(first as usize, count as usize));
+        return Decoded::Make(RunCall::Boot(first as usize, count as usize));
     }
     Decoded::Damaged
 }
@@ -80,14 +80,14 @@ fn decode_byte_boot(areas_len: usize, first: u64, count: u64) -> Decoded
     ensures { λ r. ⌜ r ≡ spec.decodedByteBoot «areas_len» first count ⌝ }
 {
     if are_listed(areas_len, first, count) {
-        return Decoded::Make(Command::BootBytes(first as usize, count as usize));
+        return Decoded::Make(RunCall::BootBytes(first as usize, count as usize));
     }
     Decoded::Damaged
 }
 
 // Whether so many areas from this one on stand in a list of so many words. The sum of the two numbers may be above what a word holds.
 fn are_listed(areas_len: usize, first: u64, count: u64) -> bool
-    ensures { λ r. ⌜ r ≡ spec.listed «areas_len» first count ⌝ }
+    ensures { λ r. ⌜ r ≡ spec.areListed «areas_len» first count ⌝ }
 {
     let areas = (areas_len / 3) as u64;
     if first <= areas {
@@ -102,13 +102,13 @@ pub fn make_call(
     a: FrameAllocator,
     words: &mut [u64],
     number: u64,
-    command: Command,
+    command: RunCall,
     areas: &[u64],
     held: &mut [u64],
 ) -> Called
     requires { ⌜ number ≡ checked a (now words) ⌝ }
     requires { ⌜ InList (length (now areas)) command ⌝ }
-    ensures { λ r. ⌜ Made (callOf (now (areas .entry)) (length (now (held .entry))) command) a (now (words .entry)) (now (held .entry)) r (now (words .exit)) (now (held .exit)) ⌝ }
+    ensures { λ r. ⌜ Made (callIn (now (areas .entry)) (length (now (held .entry))) command) a (now (words .entry)) (now (held .entry)) r (now (words .exit)) (now (held .exit)) ⌝ }
 {
     let number = number_for(command, number, held.len());
     if number != 0 {
@@ -121,31 +121,31 @@ pub fn make_call(
 fn go_on(
     a: FrameAllocator,
     words: &mut [u64],
-    command: Command,
+    command: RunCall,
     areas: &[u64],
     held: &mut [u64],
 ) -> Called
-    requires { ⌜ Goes (callOf (now areas) (length (now held)) command) a (now words) ⌝ }
+    requires { ⌜ Goes (callIn (now areas) (length (now held)) command) a (now words) ⌝ }
     requires { ⌜ InList (length (now areas)) command ⌝ }
-    ensures { λ r. ⌜ Made (callOf (now (areas .entry)) (length (now (held .entry))) command) a (now (words .entry)) (now (held .entry)) r (now (words .exit)) (now (held .exit)) ⌝ }
+    ensures { λ r. ⌜ Made (callIn (now (areas .entry)) (length (now (held .entry))) command) a (now (words .entry)) (now (held .entry)) r (now (words .exit)) (now (held .exit)) ⌝ }
 {
     match command {
-        Command::Boot(first, count) => boot_frames(a, words, areas, first, count),
-        Command::BootBytes(first, count) => boot_bytes(a, words, areas, first, count),
-        Command::Sort => sort::convert_frame_allocator_to_heap_based(a, words),
-        Command::Allocate(request) => requests::meet_request(a, words, request),
-        Command::Return(range) => returns::give_back(a, words, range),
-        Command::KindOf(range) => answered(a, lookups::kind(a, words, range)),
-        Command::FreeTotal(kind) => answered(a, lookups::free_total(a, words, kind)),
-        Command::HeldList => answered(a, held_list::held_list(a, words, held)),
+        RunCall::Boot(first, count) => boot_frames(a, words, areas, first, count),
+        RunCall::BootBytes(first, count) => boot_bytes(a, words, areas, first, count),
+        RunCall::Sort => sort::convert_frame_allocator_to_heap_based(a, words),
+        RunCall::Allocate(request) => requests::meet_request(a, words, request),
+        RunCall::Return(range) => returns::give_back(a, words, range),
+        RunCall::KindOf(range) => answered(a, lookups::kind(a, words, range)),
+        RunCall::FreeTotal(kind) => answered(a, lookups::free_total(a, words, kind)),
+        RunCall::HeldList => answered(a, held_list::held_list(a, words, held)),
     }
 }
 
 // The test's number, or 3 for a held list whose buffer is too short: 3 comes before 11.
-fn number_for(command: Command, number: u64, buffer_len: usize) -> u64
-    ensures { λ r. ⌜ ((areas : List ℕ) → r ≡ numberFor (callOf areas «buffer_len» command) number) ⌝ }
+fn number_for(command: RunCall, number: u64, buffer_len: usize) -> u64
+    ensures { λ r. ⌜ ((areas : List ℕ) → r ≡ numberFor (callIn areas «buffer_len» command) number) ⌝ }
 {
-    let Command::HeldList = command else {
+    let RunCall::HeldList = command else {
         return number;
     };
     if buffer_len < 2048 {
@@ -161,7 +161,7 @@ fn boot_frames(
     first: usize,
     count: usize,
 ) -> Called
-    requires { ⌜ spec.listed (length (now areas)) first count ≡ true ⌝ }
+    requires { ⌜ spec.areListed (length (now areas)) first count ≡ true ⌝ }
     ensures { λ r. ⌜ Gives (bootCall (areasIn (areasAt first count (now (areas .entry))))) a (now (words .entry)) r (now (words .entry)) ⌝ }
 {
     let from = 3 * first;
@@ -170,7 +170,7 @@ fn boot_frames(
 }
 
 fn boot_bytes(a: FrameAllocator, words: &[u64], areas: &[u64], first: usize, count: usize) -> Called
-    requires { ⌜ spec.listed (length (now areas)) first count ≡ true ⌝ }
+    requires { ⌜ spec.areListed (length (now areas)) first count ≡ true ⌝ }
     ensures { λ r. ⌜ Gives (bootBytesCall (byteAreasIn (areasAt first count (now (areas .entry))))) a (now (words .entry)) r (now (words .entry)) ⌝ }
 {
     let from = 3 * first;
@@ -180,7 +180,7 @@ fn boot_bytes(a: FrameAllocator, words: &[u64], areas: &[u64], first: usize, cou
 
 // A question leaves the record as it was.
 fn answered(a: FrameAllocator, answer: Answer) -> Called
-    ensures { λ r. ⌜ r ≡ spec.answeredWith answer a ⌝ }
+    ensures { λ r. ⌜ r ≡ answeredWith answer a ⌝ }
 {
     Called {
         answer,

@@ -8,7 +8,6 @@ ghost use Rattle.memory_structs.specs.Range.{range, top, size, inside, meets};
 ghost use Rattle.model.specs.Lists as model;
 ghost use Rattle.model.specs.Lists.{used, entries, anyOf, firstWhere, insertEarly, remove, inUnion};
 ghost use Rattle.model.specs.Rules.{tidy};
-ghost use Rattle.tables.specs.Words.{placeOf};
 ghost use Rattle.model.specs.Store.{slotsOf, earlyOf};
 ghost use Rattle.early.specs.Slots.{IsEarly, earlyListOf, firstUnused, framesIn, wants};
 use memory_structs::FrameRange;
@@ -16,21 +15,21 @@ use memory_structs::highest;
 use memory_structs::lowest;
 use memory_structs::meet;
 use model::EarlyList;
-use tables::Found;
+use model::Place;
 
 // The first slot that is not used.
-pub fn first_unused(l: EarlyList) -> Found
+pub fn first_unused(l: EarlyList) -> Place
     requires { ⌜ IsEarly l ⌝ }
-    ensures { λ r. ⌜ placeOf r ≡ firstUnused (slotsOf l) ⌝ }
+    ensures { λ r. ⌜ r ≡ firstUnused (slotsOf l) ⌝ }
 {
     let mut i = 0;
     while i < 32 {
         if !l.used[i] {
-            return Found::At(i);
+            return Place::At(i);
         }
         i += 1;
     }
-    Found::Nowhere
+    Place::Nowhere
 }
 
 // The slot at i takes the range.
@@ -64,8 +63,8 @@ pub fn insert(l: EarlyList, start: u64, end: u64) -> EarlyList
     ensures { λ r. ⌜ r ≡ earlyOf (insertEarly (range start end) (slotsOf l)) ⌝ }
 {
     match first_unused(l) {
-        Found::At(i) => fill(l, i, start, end),
-        Found::Nowhere => l,
+        Place::At(i) => fill(l, i, start, end),
+        Place::Nowhere => l,
     }
 }
 
@@ -94,18 +93,18 @@ pub enum Wanted {
 }
 
 // The first used slot whose range is wanted.
-pub fn first_wanted(l: EarlyList, wanted: Wanted) -> Found
+pub fn first_wanted(l: EarlyList, wanted: Wanted) -> Place
     requires { ⌜ IsEarly l ⌝ }
-    ensures { λ r. ⌜ placeOf r ≡ firstWhere (wants wanted) (slotsOf l) ⌝ }
+    ensures { λ r. ⌜ r ≡ firstWhere (wants wanted) (slotsOf l) ⌝ }
 {
     let mut i = 0;
     while i < 32 {
         if l.used[i] && is_wanted(wanted, l.starts[i], l.ends[i]) {
-            return Found::At(i);
+            return Place::At(i);
         }
         i += 1;
     }
-    Found::Nowhere
+    Place::Nowhere
 }
 
 // Whether the range from start to end is what is looked for.

@@ -10,12 +10,12 @@ use Rattle.exports.specs.Runs.{endNumber, counted, whyEnded, RunsInPlace
 use Rattle.exports.specs.declared.runs.RunCounts.{RunCounts}
 
 pub in-place : {areas calls : List ℕ} {a : FrameAllocator} {ws answers held : List ℕ} {r : Ran} {c : RunCounts} {words-after answers-after held-after : List ℕ} →
-    Runs areas calls a ws answers held r words-after answers-after held-after → c ≡ counted (r .made) (r .end) →
+    Runs areas calls a ws answers held r words-after answers-after held-after → c ≡ counted (r .ending) →
     RunsInPlace areas calls a ws answers held c (r .allocator) words-after answers-after held-after
 in-place {areas} {calls} {a} {ws} {answers} {held} {r} {c} {words-after} {answers-after} {held-after} e counts =
     record {
       runs =
           subst (λ (n : ℕ). Runs areas calls a ws answers held (ranTo (r .allocator) n (whyEnded areas calls answers)) words-after answers-after held-after) (sym (ap (λ (k : RunCounts). k .made) counts))
-          (subst (λ (w : RunEnd). Runs areas calls a ws answers held (ranTo (r .allocator) (r .made) w) words-after answers-after held-after) (e .ends) e);
+          (subst (λ (w : RunEnd). Runs areas calls a ws answers held (ranTo (r .allocator) (r .ending .made) w) words-after answers-after held-after) (e .ends) e);
       ends = ap (λ (k : RunCounts). k .end) counts ∙ ap endNumber (e .ends);
     }

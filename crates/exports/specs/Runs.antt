@@ -5,6 +5,7 @@ use mathlib.Core.List.{List}
 use lib.ListN.{length}
 use Rattle.model.specs.declared.FrameAllocator.{FrameAllocator}
 use Rattle.run.specs.Runs.{decodedIn, endOf, ranTo, Runs}
+use Rattle.run.specs.declared.Ending.{Ending}
 use Rattle.run.specs.declared.RunEnd.{RunEnd}
 use Rattle.run.specs.declared.RunEnd.the-variants.{Done, Damaged, NoRoom}
 use Rattle.exports.specs.declared.runs.RunCounts.{RunCounts}
@@ -14,8 +15,8 @@ endNumber Done = 0
 endNumber Damaged = 1
 endNumber NoRoom = 2
 
-abbrev pub counted : ℕ → RunEnd → RunCounts
-counted made end = record { made = made; end = endNumber end }
+abbrev pub counted : Ending → RunCounts
+counted e = record { made = e .made; end = endNumber (e .end) }
 
 -- why such a run ends
 abbrev pub whyEnded : (areas calls answers : List ℕ) → RunEnd

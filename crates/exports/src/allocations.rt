@@ -1,6 +1,6 @@
 // Requests: document 01, "How a request is met". A frame is named by its number, not by its address.
 ghost use Rattle.model.specs.Calls.{Gives, countCall, countBytesCall, addressCall, addressBytesCall, generalCall};
-ghost use Rattle.frame_allocator.specs.InPlace.{changed};
+ghost use Rattle.rules.specs.Check.{answeredWith};
 use frame_allocator::Request;
 use model::Answer;
 use model::FrameAllocator;
@@ -12,7 +12,7 @@ pub extern "C" fn likhmout_allocate_frames(
     words: &mut [u64],
     num_frames: u64,
 ) -> Answer
-    ensures { λ r. ⌜ Gives (countCall «num_frames») (now (a .entry)) (now (words .entry)) (changed r (now (a .exit))) (now (words .exit)) ⌝ }
+    ensures { λ r. ⌜ Gives (countCall «num_frames») (now (a .entry)) (now (words .entry)) (answeredWith r (now (a .exit))) (now (words .exit)) ⌝ }
 {
     frame_allocator::allocate(a, words, Request::Frames { num_frames })
 }
@@ -24,7 +24,7 @@ pub extern "C" fn likhmout_allocate_frames_by_bytes(
     words: &mut [u64],
     num_bytes: u64,
 ) -> Answer
-    ensures { λ r. ⌜ Gives (countBytesCall «num_bytes») (now (a .entry)) (now (words .entry)) (changed r (now (a .exit))) (now (words .exit)) ⌝ }
+    ensures { λ r. ⌜ Gives (countBytesCall «num_bytes») (now (a .entry)) (now (words .entry)) (answeredWith r (now (a .exit))) (now (words .exit)) ⌝ }
 {
     frame_allocator::allocate(a, words, Request::Bytes { num_bytes })
 }
@@ -37,7 +37,7 @@ pub extern "C" fn likhmout_allocate_frames_at(
     frame: u64,
     num_frames: u64,
 ) -> Answer
-    ensures { λ r. ⌜ Gives (addressCall frame «num_frames») (now (a .entry)) (now (words .entry)) (changed r (now (a .exit))) (now (words .exit)) ⌝ }
+    ensures { λ r. ⌜ Gives (addressCall frame «num_frames») (now (a .entry)) (now (words .entry)) (answeredWith r (now (a .exit))) (now (words .exit)) ⌝ }
 {
     frame_allocator::allocate(a, words, Request::FramesAt { frame, num_frames })
 }
@@ -50,7 +50,7 @@ pub extern "C" fn likhmout_allocate_frames_by_bytes_at(
     address: u64,
     num_bytes: u64,
 ) -> Answer
-    ensures { λ r. ⌜ Gives (addressBytesCall address «num_bytes») (now (a .entry)) (now (words .entry)) (changed r (now (a .exit))) (now (words .exit)) ⌝ }
+    ensures { λ r. ⌜ Gives (addressBytesCall address «num_bytes») (now (a .entry)) (now (words .entry)) (answeredWith r (now (a .exit))) (now (words .exit)) ⌝ }
 {
     frame_allocator::allocate(a, words, Request::BytesAt { address, num_bytes })
 }
@@ -63,7 +63,7 @@ pub extern "C" fn likhmout_allocate_general_frames_at(
     frame: u64,
     num_frames: u64,
 ) -> Answer
-    ensures { λ r. ⌜ Gives (generalCall frame «num_frames») (now (a .entry)) (now (words .entry)) (changed r (now (a .exit))) (now (words .exit)) ⌝ }
+    ensures { λ r. ⌜ Gives (generalCall frame «num_frames») (now (a .entry)) (now (words .entry)) (answeredWith r (now (a .exit))) (now (words .exit)) ⌝ }
 {
     frame_allocator::allocate(a, words, Request::GeneralFramesAt { frame, num_frames })
 }

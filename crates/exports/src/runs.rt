@@ -2,6 +2,7 @@
 ghost use mathlib.Core.Path.{_≡_};
 ghost use Rattle.exports.specs.Runs.{counted, RunsInPlace};
 use model::FrameAllocator;
+use run::Ending;
 use run::RunEnd;
 
 // What a run hands back: how many calls were made, and why it ended. 0: every call was made; 1: the next call is damaged; 2: the
@@ -25,13 +26,14 @@ pub extern "C" fn likhmout_run(
 {
     let ran = run::run(*a, words, calls, areas, answers, held);
     *a = ran.allocator;
-    count(ran.made, ran.end)
+    count(ran.ending)
 }
 
-fn count(made: usize, end: RunEnd) -> RunCounts
-    ensures { λ r. ⌜ r ≡ counted made end ⌝ }
+fn count(ending: Ending) -> RunCounts
+    ensures { λ r. ⌜ r ≡ counted ending ⌝ }
 {
-    match end {
+    let made = ending.made;
+    match ending.end {
         RunEnd::Done => RunCounts { made, end: 0 },
         RunEnd::Damaged => RunCounts { made, end: 1 },
         RunEnd::NoRoom => RunCounts { made, end: 2 },

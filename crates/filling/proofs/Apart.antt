@@ -10,25 +10,25 @@ use Rattle.memory_structs.specs.Range.{range, meets}
 use Rattle.memory_structs.specs.declared.range.FrameRange.{FrameRange}
 use Rattle.model.specs.Lists.{anyOf, disjoint}
 use Rattle.carving.specs.declared.RangeList.{RangeList}
-use Rattle.carving.specs.Ranges.{pairs, rangesIn, Whole}
-use Rattle.carving.proofs.Listed.{whole-length, pairs-cons, range-at}
-use Rattle.carving.proofs.Turns.{pairs-end}
+use Rattle.carving.specs.Ranges.{rangesOf, rangesIn, Whole}
+use Rattle.carving.proofs.Listed.{whole-length, ranges-cons, range-at}
+use Rattle.carving.proofs.Turns.{ranges-end}
 
 -- whether one of the n ranges from i on has a frame of the range from s to e
 abbrev pub meetsFrom : ℕ → ℕ → ℕ → List ℕ → List ℕ → ℕ → Bool
-meetsFrom s e n ss es i = anyOf (meets (range s e)) (drop i (pairs n ss es))
+meetsFrom s e n ss es i = anyOf (meets (range s e)) (drop i (rangesOf n ss es))
 
 -- one turn of the search for it, and its end
 module _ (s e n i : ℕ) (ss es : List ℕ) where
   pub meets-end : n ≤ i → meetsFrom s e n ss es i ≡ false
   unfolding anyOf
-  meets-end h = ap (anyOf (meets (range s e))) (pairs-end n i ss es h)
+  meets-end h = ap (anyOf (meets (range s e))) (ranges-end n i ss es h)
 
   module _ (h : i < n) (hs : n ≤ length ss) (he : n ≤ length es) where
     -- the range at i, and those after it
     either : meetsFrom s e n ss es i ≡ (meets (range s e) (range (getD ss i 0) (getD es i 0)) || meetsFrom s e n ss es (i + 1))
     unfolding anyOf
-    either = ap (anyOf (meets (range s e))) (pairs-cons n i ss es h hs he) ∙ rw (add-one i)
+    either = ap (anyOf (meets (range s e))) (ranges-cons n i ss es h hs he) ∙ rw (add-one i)
 
     pub meets-here : meets (range s e) (range (getD ss i 0) (getD es i 0)) ≡ true → meetsFrom s e n ss es i ≡ true
     meets-here m = either ∙ rw m

@@ -6,5 +6,5 @@ use Rattle.model.specs.Store.{recordOf}
 use Rattle.model.specs.declared.FrameAllocator.{FrameAllocator}
 
 -- of these pieces and these reserved areas, as joined
-abbrev pub filled : List FrameRange → List FrameRange → FrameAllocator
-filled pieces reserved = recordOf (filledLists pieces reserved)
+abbrev pub filledRecord : List FrameRange → List FrameRange → FrameAllocator
+filledRecord pieces reserved = recordOf (filledLists pieces reserved)

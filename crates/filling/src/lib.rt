@@ -8,8 +8,8 @@ ghost use Rattle.memory_structs.specs.Range.{range, meets};
 ghost use Rattle.model.specs.Lists.{anyOf, disjoint};
 ghost use Rattle.model.specs.Boot.{early};
 ghost use Rattle.model.specs.Store.{earlyOf};
-ghost use Rattle.carving.specs.Ranges.{pairs, rangesIn, Whole};
-ghost use Rattle.filling.specs.Filled.{filled};
+ghost use Rattle.carving.specs.Ranges.{rangesOf, rangesIn, Whole};
+ghost use Rattle.filling.specs.Filled.{filledRecord};
 use carving::RangeList;
 use memory_structs::meet;
 use model::EarlyList;
@@ -55,7 +55,7 @@ fn meets_from<'a>(
 ) -> bool
     requires { ⌜ (length (now starts) ≡ 32) × (length (now ends) ≡ 32) ⌝ }
     requires { ⌜ len ≤ 32 ⌝ }
-    ensures { λ r. ⌜ r ≡ anyOf (meets (range start end)) (drop from (pairs len (now (starts .entry)) (now (ends .entry)))) ⌝ }
+    ensures { λ r. ⌜ r ≡ anyOf (meets (range start end)) (drop from (rangesOf len (now (starts .entry)) (now (ends .entry)))) ⌝ }
 {
     let mut i = from;
     while i < len {
@@ -71,7 +71,7 @@ fn meets_from<'a>(
 pub fn fill_lists(pieces: RangeList, reserved: RangeList) -> FrameAllocator
     requires { ⌜ Whole pieces ⌝ }
     requires { ⌜ Whole reserved ⌝ }
-    ensures { λ r. ⌜ r ≡ filled (rangesIn pieces) (rangesIn reserved) ⌝ }
+    ensures { λ r. ⌜ r ≡ filledRecord (rangesIn pieces) (rangesIn reserved) ⌝ }
 {
     let general = early_list(pieces);
     let reserved = early_list(reserved);

@@ -1,4 +1,4 @@
-// The calls on a record by value: each takes the record, and hands it back in `Called` with the answer.
+// The calls on a record by value: each takes the record, and hands it back in `Called` with the answer, or in `Ran` with how a run ended.
 pub use boot::init;
 pub use boot::init_from_bytes;
 pub use requests::allocate;
@@ -8,4 +8,5 @@ pub use requests::allocate_frames_by_bytes;
 pub use requests::allocate_frames_by_bytes_at;
 pub use requests::allocate_general_frames_at;
 pub use returns::return_frames;
+pub use run::run;
 pub use sort::convert_frame_allocator_to_heap_based;

@@ -11,7 +11,7 @@ use lib.Dec.{ltb, eqb}
 use borrow.Author.Tests.{ltb-true, le-leb, lt-leb, lt-ltb, le-ltb, eqb-true, eq-eqb, ne-eqb}
 use Rattle.bytes.specs.Bytes.{slice, indexOf, indexAfter}
 use Rattle.lines.specs.Words.{number, withDigit, withByte, withBytes, decimalOf, inFront, wordsIn, wordsAfter}
-use Rattle.lines.specs.Words.{sameText, generalText, reservedText, kindOf, wordOfArea, nextWord}
+use Rattle.lines.specs.Words.{sameText, generalText, reservedText, kindNumber, wordOfArea, nextWord}
 use Rattle.lines.specs.Words.{Filled, filled, invalid, putNumber, putWord, putAll}
 use Rattle.lines.specs.declared.Word.{Word}
 use Rattle.lines.specs.declared.Word.the-variants.{Number, Nothing}
@@ -83,21 +83,21 @@ same-told false bs cs told = go (sameText bs cs) refl
     go true e = absurd (false≢true (told .1 (same-sound bs cs e)))
     go false e = refl
 
-pub kind-general : (t : List ℕ) → sameText t generalText ≡ true → Number 0 ≡ kindOf t
-unfolding kindOf
+pub kind-general : (t : List ℕ) → sameText t generalText ≡ true → Number 0 ≡ kindNumber t
+unfolding kindNumber
 kind-general t e = rw e
 
-pub kind-reserved : (t : List ℕ) → sameText t generalText ≡ false → sameText t reservedText ≡ true → Number 1 ≡ kindOf t
-unfolding kindOf
+pub kind-reserved : (t : List ℕ) → sameText t generalText ≡ false → sameText t reservedText ≡ true → Number 1 ≡ kindNumber t
+unfolding kindNumber
 kind-reserved t e f = rw (e, f)
 
-pub kind-neither : (t : List ℕ) → sameText t generalText ≡ false → sameText t reservedText ≡ false → Nothing ≡ kindOf t
-unfolding kindOf
+pub kind-neither : (t : List ℕ) → sameText t generalText ≡ false → sameText t reservedText ≡ false → Nothing ≡ kindNumber t
+unfolding kindNumber
 kind-neither t e f = rw (e, f)
 
 -- ---- the words of an area
 
-pub area-kind : (place : ℕ) (t : List ℕ) → place ≡ 2 → kindOf t ≡ wordOfArea place t
+pub area-kind : (place : ℕ) (t : List ℕ) → place ≡ 2 → kindNumber t ≡ wordOfArea place t
 unfolding wordOfArea
 area-kind place t e = rw (eq-eqb place 2 e)
 

@@ -64,12 +64,12 @@ abbrev pub reservedText : List ℕ
 reservedText = 114 ∷ 101 ∷ 115 ∷ 101 ∷ 114 ∷ 118 ∷ 101 ∷ 100 ∷ []
 
 -- the number that stands for a kind
-unfoldable pub kindOf : List ℕ → Word
-kindOf t = cond (sameText t generalText) (Number 0) (cond (sameText t reservedText) (Number 1) Nothing)
+unfoldable pub kindNumber : List ℕ → Word
+kindNumber t = cond (sameText t generalText) (Number 0) (cond (sameText t reservedText) (Number 1) Nothing)
 
 -- an area is two numbers and a kind
 unfoldable pub wordOfArea : ℕ → List ℕ → Word
-wordOfArea place t = cond (eqb place 2) (kindOf t) (decimalOf t)
+wordOfArea place t = cond (eqb place 2) (kindNumber t) (decimalOf t)
 
 -- what a reading takes the next text for
 unfoldable pub nextWord : Layout → Reading → List ℕ → Word

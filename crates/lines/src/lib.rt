@@ -76,7 +76,7 @@ fn word_of_area(place: usize, text: &[u8]) -> Word
 
 // 0 for `general` and 1 for `reserved`, as boot takes them.
 fn kind(text: &[u8]) -> Word
-    ensures { λ w. ⌜ w ≡ words.kindOf (now (text .entry)) ⌝ }
+    ensures { λ w. ⌜ w ≡ words.kindNumber (now (text .entry)) ⌝ }
 {
     if check::same(text, b"general") {
         return Word::Number(0);

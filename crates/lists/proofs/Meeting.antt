@@ -10,7 +10,9 @@ use borrow.Author.Tests.{le-leb, lt-leb, leb-true, leb-false}
 use Rattle.memory_structs.specs.Choice.{if_then_else_}
 use Rattle.memory_structs.specs.Range.{meets}
 use Rattle.memory_structs.specs.declared.range.FrameRange.{FrameRange}
-use Rattle.model.specs.Lists.{Slot, unused, used, entries, anyOf, Place, nowhere, at, later, orElse, lastWhere, rangeAt}
+use Rattle.model.specs.Lists.{Slot, unused, used, entries, anyOf, later, orElse, lastWhere, rangeAt}
+use Rattle.model.specs.declared.Place.{Place}
+use Rattle.model.specs.declared.Place.the-variants.{Nowhere, At}
 use Rattle.tables.proofs.Search.{leb-same}
 use Rattle.model.specs.Rules.{tidy}
 use Rattle.model.specs.Store.{slotsOf, tableSlots}
@@ -22,8 +24,8 @@ use Rattle.lists.proofs.One.{at-sorted, at-early}
 
 -- the entry at a place ends at m or above
 unfoldable pub reaches : ℕ → List Slot → Place → Bool
-reaches m s nowhere = false
-reaches m s (at i) = leb m (rangeAt s i .end)
+reaches m s Nowhere = false
+reaches m s (At i) = leb m (rangeAt s i .end)
 
 ends-above : (m : ℕ) (s : List Slot) (i : ℕ) → Spaced m s → i < length s → m ≤ rangeAt s i .end
 unfolding Spaced rangeAt
@@ -49,14 +51,14 @@ highest-meets r h m [] a = refl
 highest-meets r h m (unused ∷ s) a = absurd a
 highest-meets r h m (used c ∷ s) a = go (lastWhere (λ x. leb (x .start) (r .end)) s) refl (highest-meets r h (c .end + 1) s (a .2))
   where
-    shown : (b : Bool) → (if b then leb (r .start) (c .end) else false) ≡ reaches (r .start) (used c ∷ s) (if b then at 0 else nowhere)
+    shown : (b : Bool) → (if b then leb (r .start) (c .end) else false) ≡ reaches (r .start) (used c ∷ s) (if b then At 0 else Nowhere)
     shown true = refl
     shown false = refl
 
     go : (q : Place) → lastWhere (λ x. leb (x .start) (r .end)) s ≡ q → anyOf (meets r) (entries s) ≡ reaches (r .start) s q
-        → (meets r c || anyOf (meets r) (entries s)) ≡ reaches (r .start) (used c ∷ s) (orElse (later q) (if leb (c .start) (r .end) then at 0 else nowhere))
-    go nowhere e ih = ap (λ (b : Bool). meets r c || b) ih ∙ alone r c (leb (c .start) (r .end)) refl h (a .1) ∙ shown (leb (c .start) (r .end))
-    go (at j) e ih =
+        → (meets r c || anyOf (meets r) (entries s)) ≡ reaches (r .start) (used c ∷ s) (orElse (later q) (if leb (c .start) (r .end) then At 0 else Nowhere))
+    go Nowhere e ih = ap (λ (b : Bool). meets r c || b) ih ∙ alone r c (leb (c .start) (r .end)) refl h (a .1) ∙ shown (leb (c .start) (r .end))
+    go (At j) e ih =
         ap (λ (b : Bool). meets r c || b) ih
         ∙ either r c (rangeAt s j .end) (meets r c) refl (omega (arith, ends-above (c .end + 1) s j (a .2) (last-bound (λ x. leb (x .start) (r .end)) s j e)))
 

@@ -8,7 +8,6 @@ ghost use Rattle.model.specs.Lists as model;
 ghost use Rattle.model.specs.Lists.{entries, rangeAt, anyOf, bound, inUnion};
 ghost use Rattle.model.specs.Rules.{slotted, tidy};
 ghost use Rattle.model.specs.Requests.{largeEnough};
-ghost use Rattle.tables.specs.Words.{placeOf};
 ghost use Rattle.lists.specs.One.{IsList, slotsIn, Stored};
 
 mod record;
@@ -16,6 +15,7 @@ mod record;
 use early::Wanted;
 use memory_structs::FrameRange;
 use model::EarlyList;
+use model::Place;
 pub use record::WhichList;
 pub use record::fresh;
 pub use record::list_of;
@@ -23,7 +23,6 @@ pub use record::part_of;
 pub use record::record_of;
 pub use record::unused_slots;
 pub use record::with_list;
-use tables::Found;
 
 // In sorted form the list is the first `len` pairs of the table that is lent beside it, and every slot is unused.
 pub struct OneList {
@@ -44,9 +43,9 @@ pub fn count(l: OneList, t: &[u64]) -> usize
 }
 
 // The chunk that a request for n frames is taken from: the first that is large enough, in sorted form the highest.
-pub fn find_large(l: OneList, t: &[u64], n: u64) -> Found
+pub fn find_large(l: OneList, t: &[u64], n: u64) -> Place
     requires { ⌜ IsList l (now t) ⌝ }
-    ensures { λ r. ⌜ placeOf r ≡ largeEnough (l .sorted) n (slotsIn l (now (t .entry))) ⌝ }
+    ensures { λ r. ⌜ r ≡ largeEnough (l .sorted) n (slotsIn l (now (t .entry))) ⌝ }
 {
     if l.sorted {
         return tables::highest_large(t, l.len, n);
@@ -79,8 +78,8 @@ pub fn meets(l: OneList, t: &[u64], start: u64, end: u64) -> bool
     if l.sorted {
         // Only the highest entry that starts at or below the end can meet it.
         return match tables::highest_at_or_below(t, l.len, end) {
-            Found::At(i) => start <= t[2 * i + 1],
-            Found::Nowhere => false,
+            Place::At(i) => start <= t[2 * i + 1],
+            Place::Nowhere => false,
         };
     }
     let e = l.early;

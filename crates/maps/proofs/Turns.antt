@@ -9,7 +9,7 @@ use Rattle.memory_structs.specs.declared.range.FrameRange.{FrameRange}
 use Rattle.model.specs.Boot.{allPieces}
 use Rattle.carving.specs.Ranges.{listed, Appended}
 use Rattle.carving.specs.declared.RangeList.{RangeList}
-use Rattle.areas.specs.Areas.{extents, piecesIn, Collects, Adds}
+use Rattle.areas.specs.Areas.{extents, piecesIn, CollectedOf, OneAreaMore}
 use Rattle.areas.specs.declared.BootArea.{BootArea}
 use Rattle.areas.specs.declared.Collected.{Collected}
 use Rattle.areas.proofs.Steps.{collected, carved}
@@ -22,12 +22,12 @@ module _ {T : Type 0} (taken : T → BootArea) (none : T) (ys : List T) where
   all-done : (i : ℕ) → length ys ≤ i → map taken (take i ys) ≡ map taken ys
   all-done i h = ap (map taken) (take-all i ys h)
 
-  pub collects-next : (i : ℕ) (a : BootArea) (c d : Collected) → i < length ys → Collects (map taken (take i ys)) c → a ≡ taken (getD ys i none) → Adds c a d → Collects (map taken (take (i + 1) ys)) d
+  pub collects-next : (i : ℕ) (a : BootArea) (c d : Collected) → i < length ys → CollectedOf (map taken (take i ys)) c → a ≡ taken (getD ys i none) → OneAreaMore c a d → CollectedOf (map taken (take (i + 1) ys)) d
   collects-next i a c d h k e s =
-      subst (λ (xs : List BootArea). Collects xs d) (sym (one-more i h)) (collected (map taken (take i ys)) (taken (getD ys i none)) c d k (subst (λ (x : BootArea). Adds c x d) e s))
+      subst (λ (xs : List BootArea). CollectedOf xs d) (sym (one-more i h)) (collected (map taken (take i ys)) (taken (getD ys i none)) c d k (subst (λ (x : BootArea). OneAreaMore c x d) e s))
 
-  pub collects-all : (i : ℕ) (c : Collected) → length ys ≤ i → Collects (map taken (take i ys)) c → Collects (map taken ys) c
-  collects-all i c h k = subst (λ (xs : List BootArea). Collects xs c) (all-done i h) k
+  pub collects-all : (i : ℕ) (c : Collected) → length ys ≤ i → CollectedOf (map taken (take i ys)) c → CollectedOf (map taken ys) c
+  collects-all i c h k = subst (λ (xs : List BootArea). CollectedOf xs c) (all-done i h) k
 
   -- what is carved of the areas before i
   abbrev pub Carves : List FrameRange → ℕ → RangeList → Type 0

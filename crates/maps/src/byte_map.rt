@@ -2,7 +2,7 @@
 ghost use mathlib.Core.Path.{_≡_};
 ghost use Prim.Native.Nat.{_<_};
 ghost use lib.ListN.{length, getD};
-ghost use Rattle.areas.specs.Areas.{Collects, bootByteArea, bootByteAreas, piecesIn};
+ghost use Rattle.areas.specs.Areas.{CollectedOf, bootByteArea, bootByteAreas, piecesIn};
 ghost use Rattle.boot.specs.Boots.{Surveys};
 ghost use Rattle.carving.specs.Ranges.{listed, rangesIn, Carvable};
 ghost use Rattle.maps.specs.Maps.{noByteArea};
@@ -24,7 +24,7 @@ pub fn survey(areas: &[ByteArea]) -> Survey
 
 // The reserved areas, and what 4 and 2 look at.
 fn collect(areas: &[ByteArea]) -> Collected
-    ensures { λ r. ⌜ Collects (bootByteAreas (now (areas .entry))) r ⌝ }
+    ensures { λ r. ⌜ CollectedOf (bootByteAreas (now (areas .entry))) r ⌝ }
 {
     let mut c = areas::nothing_collected();
     let mut i = 0;

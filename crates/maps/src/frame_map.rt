@@ -2,7 +2,7 @@
 ghost use mathlib.Core.Path.{_≡_};
 ghost use Prim.Native.Nat.{_<_};
 ghost use lib.ListN.{length, getD};
-ghost use Rattle.areas.specs.Areas.{Collects, bootArea, bootAreas, piecesIn};
+ghost use Rattle.areas.specs.Areas.{CollectedOf, bootArea, bootAreas, piecesIn};
 ghost use Rattle.boot.specs.Boots.{Surveys};
 ghost use Rattle.carving.specs.Ranges.{listed, rangesIn, Carvable};
 ghost use Rattle.maps.specs.Maps.{noArea};
@@ -24,7 +24,7 @@ pub fn survey(areas: &[Area]) -> Survey
 
 // The reserved areas, and what 4 and 2 look at.
 fn collect(areas: &[Area]) -> Collected
-    ensures { λ r. ⌜ Collects (bootAreas (now (areas .entry))) r ⌝ }
+    ensures { λ r. ⌜ CollectedOf (bootAreas (now (areas .entry))) r ⌝ }
 {
     let mut c = areas::nothing_collected();
     let mut i = 0;

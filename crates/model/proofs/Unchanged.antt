@@ -10,7 +10,9 @@ use Rattle.memory_structs.specs.Choice.{if_then_else_}
 use Rattle.memory_structs.specs.Range.{range, meets, isEmpty, aboveTop, top, frameSize, addressLimit}
 use Rattle.memory_structs.specs.declared.range.FrameRange.{FrameRange}
 use Rattle.memory_structs.proofs.Bools.{if-cases, both-first, neither-first}
-use Rattle.model.specs.Lists.{Lists, Slot, entries, anyOf, Place, nowhere, at, insert, bound, inUnion}
+use Rattle.model.specs.Lists.{Lists, Slot, entries, anyOf, insert, bound, inUnion}
+use Rattle.model.specs.declared.Place.{Place}
+use Rattle.model.specs.declared.Place.the-variants.{Nowhere, At}
 use Rattle.model.specs.Boot.{Extent, inFrames, inBytes, bootRefusal, byteRefusal}
 use Rattle.model.specs.Requests.{Result, refused, refusedMissing, counted, granted, Found, notFound, missing, tooShort, chunks, find, entriesAfter, withReserved, takeGeneral, takeReserved, fromPlace, largeEnough, byCount, byBytes, framesOf, fromGrown, noRoomToGrow, grow, inGeneral, inReserved, byAddress, byAddressBytes, onlyGeneral, byAddressGeneral}
 use Rattle.model.specs.Returns.{noPlace, giveGeneral, giveReserved, giveBack, sort}
@@ -38,8 +40,8 @@ take-reserved l i k c r =
 
 from-place : (l : Lists) (n : ℕ) (q : Place) → Refuses l (fromPlace l n q)
 unfolding fromPlace refused
-from-place l n nowhere h = refl
-from-place l n (at i) h = take-general l i 1 _ _ h
+from-place l n Nowhere h = refl
+from-place l n (At i) h = take-general l i 1 _ _ h
 
 by-count : (n : ℕ) (l : Lists) → Refuses l (byCount n l)
 unfolding byCount refused

@@ -9,7 +9,8 @@ use lib.Dec.{ltb, eqb}
 use borrow.Author.Tests.{le-ltb}
 use Rattle.memory_structs.specs.Range.{range}
 use Rattle.memory_structs.specs.declared.range.FrameRange.{FrameRange}
-use Rattle.model.specs.Lists.{Slot, entries, at, nowhere, firstWhere, rangeAt, insert, insertSorted, replaceAt, bound}
+use Rattle.model.specs.Lists.{Slot, entries, firstWhere, rangeAt, insert, insertSorted, replaceAt, bound}
+use Rattle.model.specs.declared.Place.the-variants.{Nowhere, At}
 use Rattle.model.specs.Returns.{joinBelow, joinAbove, rejoin, given, noPlace}
 use Rattle.model.specs.Store.{tableSlots, tableWords}
 use Rattle.model.proofs.Cover.{Hit, first-hit, sorted-count}
@@ -24,22 +25,22 @@ use Rattle.lists.proofs.Again.{list-stored, replaced-used}
 use Rattle.rejoining.specs.Rejoins.{afterReturn, GoesBack}
 
 -- a pair that a search answers is one of the table's
-pub found-pair : (p : FrameRange → Bool) (n : ℕ) (ws : List ℕ) (i : ℕ) → at i ≡ firstWhere p (tableSlots n ws) → i < n
+pub found-pair : (p : FrameRange → Bool) (n : ℕ) (ws : List ℕ) (i : ℕ) → At i ≡ firstWhere p (tableSlots n ws) → i < n
 unfolding Hit
 found-pair p n ws i e = omega (arith, used-below (tableSlots n ws) i ((rw (← e) at (first-hit p (tableSlots n ws))) .1), table-length n ws)
 
 -- what a return is by what touches the range
 module _ (r : FrameRange) (s : List Slot) where
-  pub found-above : (i : ℕ) → at i ≡ firstWhere (λ c. eqb (c .start) (r .end + 1)) s → given true r s ≡ replaceAt i (range (r .start) (rangeAt s i .end)) s
+  pub found-above : (i : ℕ) → At i ≡ firstWhere (λ c. eqb (c .start) (r .end + 1)) s → given true r s ≡ replaceAt i (range (r .start) (rangeAt s i .end)) s
   unfolding given rejoin joinAbove
   found-above i e = ap (joinAbove r s) (sym e)
 
-  module _ (above : nowhere ≡ firstWhere (λ c. eqb (c .start) (r .end + 1)) s) where
-    pub found-under : (i : ℕ) → at i ≡ firstWhere (λ c. eqb (c .end + 1) (r .start)) s → given true r s ≡ replaceAt i (range (rangeAt s i .start) (r .end)) s
+  module _ (above : Nowhere ≡ firstWhere (λ c. eqb (c .start) (r .end + 1)) s) where
+    pub found-under : (i : ℕ) → At i ≡ firstWhere (λ c. eqb (c .end + 1) (r .start)) s → given true r s ≡ replaceAt i (range (rangeAt s i .start) (r .end)) s
     unfolding given rejoin joinAbove joinBelow
     found-under i e = ap (joinAbove r s) (sym above) ∙ ap (joinBelow r s) (sym e)
 
-    pub found-neither : nowhere ≡ firstWhere (λ c. eqb (c .end + 1) (r .start)) s → given true r s ≡ insert true r s
+    pub found-neither : Nowhere ≡ firstWhere (λ c. eqb (c .end + 1) (r .start)) s → given true r s ≡ insert true r s
     unfolding given rejoin joinAbove joinBelow insert
     found-neither e = ap (joinAbove r s) (sym above) ∙ ap (joinBelow r s) (sym e)
 

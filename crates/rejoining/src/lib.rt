@@ -10,7 +10,7 @@ ghost use Rattle.model.specs.Rules.{slotted, tidy};
 ghost use Rattle.lists.specs.One.{IsList, slotsIn};
 ghost use Rattle.rejoining.specs.Rejoins.{GoesBack};
 use lists::OneList;
-use tables::Found;
+use model::Place;
 
 // Whether the list had a place for the range, and the list after the return; without a place it is as it was.
 pub struct GivenBack {
@@ -39,7 +39,7 @@ fn rejoin(l: OneList, t: &mut [u64], start: u64, end: u64) -> GivenBack
     requires { ⌜ end ≤ top ⌝ }
     ensures { λ r. ⌜ GoesBack (l .sorted) (range start end) (slotsIn l (now (t .entry))) (now (t .entry)) r (now (t .exit)) ⌝ }
 {
-    if let Found::At(i) = tables::starting_at(t, l.len, end + 1) {
+    if let Place::At(i) = tables::starting_at(t, l.len, end + 1) {
         let last = t[2 * i + 1];
         tables::replace_at(t, l.len, i, start, last);
         return GivenBack {
@@ -47,7 +47,7 @@ fn rejoin(l: OneList, t: &mut [u64], start: u64, end: u64) -> GivenBack
             list: l,
         };
     }
-    if let Found::At(i) = tables::ending_below(t, l.len, start) {
+    if let Place::At(i) = tables::ending_below(t, l.len, start) {
         let first = t[2 * i];
         tables::replace_at(t, l.len, i, first, end);
         return GivenBack {

@@ -7,8 +7,8 @@ use lib.ListN.{length, take, drop, getD}
 use lib.Seq.{take-nil}
 use Rattle.model.specs.Calls.{Call}
 use Rattle.areas.proofs.Read.{next-three, none-left}
-use Rattle.commands.specs.Commands.{decoded, callOf}
-use Rattle.commands.specs.declared.Command.{Command}
+use Rattle.commands.specs.Commands.{decoded, callIn}
+use Rattle.commands.specs.declared.RunCall.{RunCall}
 use Rattle.commands.specs.declared.Decoded.{Decoded}
 use Rattle.commands.specs.declared.Decoded.the-variants.{Make, Damaged}
 use Rattle.run.specs.declared.RunEnd.{RunEnd}
@@ -63,7 +63,7 @@ module _ (areas calls : List ℕ) where
           unfolding endLeft endOf
           end-damaged = ap (endOf (room - made)) heads
 
-        module _ (c : Command) (e : decodedAt (3 * made) ≡ Make c) where
+        module _ (c : RunCall) (e : decodedAt (3 * made) ≡ Make c) where
           begins : decodedIn areas (drop (3 * made) calls) ≡ Make c ∷ rest
           begins = decoded-next made h ∙ ap (λ (d : Decoded). d ∷ rest) e
 
@@ -83,7 +83,7 @@ module _ (areas calls : List ℕ) where
 
           -- there is
           module _ (more : made < room) where
-            pub left-next : left made ≡ callOf areas buffer c ∷ left (made + 1)
+            pub left-next : left made ≡ callIn areas buffer c ∷ left (made + 1)
             unfolding left callsIn
             left-next =
                 let z : room - made ≡ suc (room - (made + 1)) = omega arith in

@@ -8,9 +8,9 @@ use Rattle.model.specs.Calls.{Call}
 use Rattle.model.specs.declared.Called.{Called}
 use Rattle.model.specs.declared.FrameAllocator.{FrameAllocator}
 use Rattle.rules.specs.Check.{checked}
-use Rattle.commands.specs.Commands.{callOf}
+use Rattle.commands.specs.Commands.{callIn}
 use Rattle.commands.specs.Made.{Made}
-use Rattle.commands.specs.declared.Command.{Command}
+use Rattle.commands.specs.declared.RunCall.{RunCall}
 use Rattle.commands.specs.declared.Decoded.{Decoded}
 use Rattle.commands.specs.declared.Decoded.the-variants.{Make, Damaged}
 use Rattle.commands.proofs.Lasting.{test-lasts}
@@ -72,7 +72,7 @@ module _ {areas calls : List ℕ} {first : FrameAllocator} {ws₀ answers₀ hel
         let e = sym p ∙ q in
         stops (left-damaged areas calls (length held₀) (length answers₀ / 5) made h e) ends.Damaged (end-damaged areas calls (length held₀) (length answers₀ / 5) made h e) r k
 
-    module _ (c : Command) (d : Decoded) (p : d ≡ decodedAt areas calls (3 * made)) (q : d ≡ Make c) where
+    module _ (c : RunCall) (d : Decoded) (p : d ≡ decodedAt areas calls (3 * made)) (q : d ≡ Make c) where
       next-is : decodedAt areas calls (3 * made) ≡ Make c
       next-is = sym p ∙ q
 
@@ -86,16 +86,16 @@ module _ {areas calls : List ℕ} {first : FrameAllocator} {ws₀ answers₀ hel
       lasts : {made-call : Call} {called : Called} {words-after held-after : List ℕ} → Made made-call a ws held called words-after held-after → number ≡ checked (called .allocator) words-after
       lasts {made-call = made-call} m = s .tested ∙ sym (test-lasts made-call a ws) ∙ (λ i. checked (sym (m .gives .records) i) (sym (m .gives .words) i))
 
-      pub reached-next : 5 * made + 5 ≤ length answers → {called : Called} {words-after held-after : List ℕ} → Made (callOf areas (length held) c) a ws held called words-after held-after →
+      pub reached-next : 5 * made + 5 ≤ length answers → {called : Called} {words-after held-after : List ℕ} → Made (callIn areas (length held) c) a ws held called words-after held-after →
           (answers-after : List ℕ) → answers-after ≡ take (5 * made) answers ++ answerWords (called .answer) ++ drop (5 * made + 5) answers →
           length words-after ≡ length ws → length answers-after ≡ length answers → length held-after ≡ length held →
           Reached areas calls first ws₀ answers₀ held₀ number (made + 1) (called .allocator) words-after answers-after held-after
       reached-next room {called = called} {words-after = words-after} {held-after = held-after} m answers-after w nw na nh =
           let n = s .answers-length in
           let more : made < length answers₀ / 5 = omega arith in
-          let known : Made (callOf areas (length held₀) c) a ws held called words-after held-after =
-          subst (λ (k : ℕ). Made (callOf areas k c) a ws held called words-after held-after) (s .held-length) m in
-          let here : Along (callsMade areas calls answers₀ held₀) first ws₀ answers₀ held₀ made (callOf areas (length held₀) c ∷ left areas calls (length held₀) (length answers₀ / 5) (made + 1)) a ws answers held =
+          let known : Made (callIn areas (length held₀) c) a ws held called words-after held-after =
+          subst (λ (k : ℕ). Made (callIn areas k c) a ws held called words-after held-after) (s .held-length) m in
+          let here : Along (callsMade areas calls answers₀ held₀) first ws₀ answers₀ held₀ made (callIn areas (length held₀) c ∷ left areas calls (length held₀) (length answers₀ / 5) (made + 1)) a ws answers held =
           subst (λ (cs : List Call). Along (callsMade areas calls answers₀ held₀) first ws₀ answers₀ held₀ made cs a ws answers held)
           (left-next areas calls (length held₀) (length answers₀ / 5) made h c next-is more) (s .along) in
           record {

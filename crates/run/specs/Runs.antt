@@ -10,10 +10,11 @@ use Rattle.model.specs.History.{outcomes, recordAfter, wordsAfter, isGeneral, B
 use Rattle.model.specs.declared.Answer.{Answer}
 use Rattle.model.specs.declared.FrameAllocator.{FrameAllocator}
 use Rattle.areas.specs.Areas.{triples}
-use Rattle.commands.specs.Commands.{decoded, callOf}
+use Rattle.commands.specs.Commands.{decoded, callIn}
 use Rattle.commands.specs.Made.{Left}
 use Rattle.commands.specs.declared.Decoded.{Decoded}
 use Rattle.commands.specs.declared.Decoded.the-variants.{Make, Damaged}
+use Rattle.run.specs.declared.Ending.{Ending}
 use Rattle.run.specs.declared.Ran.{Ran}
 use Rattle.run.specs.declared.RunEnd.{RunEnd}
 use Rattle.run.specs.declared.RunEnd.the-variants as end
@@ -27,7 +28,7 @@ decodedIn areas calls = triples (decoded (length areas)) calls
 -- up to the first that is damaged
 unfoldable pub callsIn : (areas : List ℕ) (buffer : ℕ) → List Decoded → List Call
 callsIn areas buffer [] = []
-callsIn areas buffer (Make c ∷ ds) = callOf areas buffer c ∷ callsIn areas buffer ds
+callsIn areas buffer (Make c ∷ ds) = callIn areas buffer c ∷ callsIn areas buffer ds
 callsIn areas buffer (Damaged ∷ ds) = []
 
 -- and as many as there is room for, five words to an answer
@@ -41,8 +42,12 @@ endOf room (Damaged ∷ ds) = end.Damaged
 endOf zero (Make c ∷ ds) = end.NoRoom
 endOf (suc room) (Make c ∷ ds) = endOf room ds
 
+-- how a run ends and what it leaves of the record, together
+abbrev pub ranWith : Ending → FrameAllocator → Ran
+ranWith e a = record { ending = e; allocator = a }
+
 abbrev pub ranTo : FrameAllocator → ℕ → RunEnd → Ran
-ranTo a n e = record { allocator = a; made = n; end = e }
+ranTo a n e = ranWith (record { made = n; end = e }) a
 
 -- ---- what they leave
 
@@ -62,7 +67,7 @@ pub data Buffers : List Call → FrameAllocator → List ℕ → List ℕ → Li
 
 -- "Each gets record and workspace as the call before left them"
 pub record RunsCalls (cs : List Call) (a : FrameAllocator) (ws answers held : List ℕ) (r : Ran) (words-after answers-after held-after : List ℕ) : Type 0 where
-  pub made : r .made ≡ length cs
+  pub made : r .ending .made ≡ length cs
   pub records : r .allocator ≡ recordAfter cs a ws
   pub words : words-after ≡ wordsAfter cs a ws
   -- "Then each is answered as 2's definitions say"; the words after the last answer are as they were
@@ -79,5 +84,5 @@ Demanded (b ∷ cs) a ws =
 
 pub record Runs (areas calls : List ℕ) (a : FrameAllocator) (ws answers held : List ℕ) (r : Ran) (words-after answers-after held-after : List ℕ) : Type 0 where
   pub runs : RunsCalls (callsMade areas calls answers held) a ws answers held r words-after answers-after held-after
-  pub ends : r .end ≡ endOf (length answers / 5) (decodedIn areas calls)
+  pub ends : r .ending .end ≡ endOf (length answers / 5) (decodedIn areas calls)
   pub demand : Demanded (callsMade areas calls answers held) a ws

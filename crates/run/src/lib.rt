@@ -18,11 +18,16 @@ pub enum RunEnd {
     NoRoom,
 }
 
-// What a run hands back: the record, how many calls were made, and why it ended.
-pub struct Ran {
-    pub allocator: FrameAllocator,
+// How many calls were made, and why no more.
+pub struct Ending {
     pub made: usize,
     pub end: RunEnd,
+}
+
+// What a run hands back: how it ended, and the record after it.
+pub struct Ran {
+    pub ending: Ending,
+    pub allocator: FrameAllocator,
 }
 
 // Each call gets record and workspace as the call before left them. Its answer goes to the next five words of the buffer.
@@ -50,7 +55,7 @@ pub fn run(
             return ended(allocator, made, RunEnd::NoRoom);
         }
         let called = commands::make_call(allocator, words, number, command, areas, held);
-        write_answer(answers, at, called.answer);
+        put_answer(answers, at, called.answer);
         allocator = called.allocator;
         made += 1;
     }
@@ -61,14 +66,13 @@ fn ended(allocator: FrameAllocator, made: usize, end: RunEnd) -> Ran
     ensures { λ r. ⌜ r ≡ ranTo allocator made end ⌝ }
 {
     Ran {
+        ending: Ending { made, end },
         allocator,
-        made,
-        end,
     }
 }
 
 // An answer in five words: number, start, end, frame, count.
-fn write_answer(answers: &mut [u64], at: usize, x: Answer)
+fn put_answer(answers: &mut [u64], at: usize, x: Answer)
     requires { ⌜ at + 5 ≤ length (now answers) ⌝ }
     ensures { λ r. ⌜ now (answers .exit) ≡ take at (now (answers .entry)) ++ answerWords x ++ drop (at + 5) (now (answers .entry)) ⌝ }
 {

@@ -1,10 +1,9 @@
 -- `count_frames`: 1, 14, or the beginning of the chunk that was found.
 use mathlib.Core.Path.{_≡_, sym, ap, _∙_}
 use native.Mathlib.Omega.{arith}
-use Rattle.model.specs.Lists.{at}
+use Rattle.model.specs.declared.Place.the-variants.{At}
 use Rattle.model.specs.Requests.{largeEnough}
 use Rattle.model.specs.Store.{load}
-use Rattle.tables.specs.Words.{placeOf}
 use Rattle.rules.proofs.Going.{does-as, does-refuse}
 use Rattle.by_count.proofs.Counted.{count-none, count-on, no-chunk}
 use borrow.Author.Needs.{needs}
@@ -32,8 +31,8 @@ enum-known-i : tie.Need-enum-known-i
 enum-known-i c = search needs
 
 -- the chunk that was found
-found : (c : tie.After-i) → largeEnough (c .before .before .before .before .before .before .args .a .sorted) (c .before .before .before .before .before .before .args .num-frames) (load (c .before .before .before .before .before .before .args .a) (c .before .before .before .before .before .before .args .words .now) .generalFree) ≡ at (c .i .given .0 .0)
-found c = sym (c .before .before .find-any-chunk .ensures) ∙ ap placeOf (c .i .given .1)
+found : (c : tie.After-i) → largeEnough (c .before .before .before .before .before .before .args .a .sorted) (c .before .before .before .before .before .before .args .num-frames) (load (c .before .before .before .before .before .before .args .a) (c .before .before .before .before .before .before .args .words .now) .generalFree) ≡ At (c .i .given .0 .0)
+found c = sym (c .before .before .find-any-chunk .ensures) ∙ c .i .given .1
 
 take-beginning-requires : tie.Need-take-beginning-requires
 unfolding load
@@ -52,7 +51,7 @@ returns-2 c =
     let s = k .before .before .before .before in
     let l = load (s .args .a) (s .args .words .now) in
     does-refuse (s .args .a) (s .args .words .now) (s .pre) 14 _ (c .refused2 .ensures) _
-    (count-on (s .args .num-frames) l (k .before .before .if1 .left) _ (sym (k .find-any-chunk .ensures) ∙ ap placeOf (c .before .enum-told .given .1)) ∙ no-chunk (s .args .num-frames) l)
+    (count-on (s .args .num-frames) l (k .before .before .if1 .left) _ (sym (k .find-any-chunk .ensures) ∙ c .before .enum-told .given .1) ∙ no-chunk (s .args .num-frames) l)
 
 same-length-2 : tie.Need-same-length-2
 same-length-2 c = search needs

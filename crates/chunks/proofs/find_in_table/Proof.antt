@@ -3,9 +3,9 @@ use mathlib.Core.Path.{_≡_, sym, ap, _∙_}
 use lib.Dec.{leb}
 use Rattle.memory_structs.specs.Range.{range}
 use Rattle.memory_structs.specs.declared.range.FrameRange.{FrameRange}
-use Rattle.model.specs.Lists.{at, lastWhere}
+use Rattle.model.specs.Lists.{lastWhere}
+use Rattle.model.specs.declared.Place.the-variants.{At}
 use Rattle.model.specs.Store.{tableSlots}
-use Rattle.tables.specs.Words.{placeOf}
 use Rattle.tables.proofs.Touching.{pair-bound}
 use Rattle.chunks.specs.Searches.{foundOf}
 use Rattle.chunks.proofs.Table.{found-in, nothing-below}
@@ -20,8 +20,8 @@ enum-known-i : tie.Need-enum-known-i
 enum-known-i c = search needs
 
 -- the pair that was found
-found : (c : tie.After-i) → at (c .i .given .0 .0) ≡ lastWhere (λ (r : FrameRange). leb (r .start) (c .before .before .before .before .args .start)) (tableSlots (c .before .before .before .before .args .len) (c .before .before .before .before .args .t .now))
-found c = sym (ap placeOf (c .i .given .1)) ∙ c .before .before .highest-at-or-below .ensures
+found : (c : tie.After-i) → At (c .i .given .0 .0) ≡ lastWhere (λ (r : FrameRange). leb (r .start) (c .before .before .before .before .args .start)) (tableSlots (c .before .before .before .before .args .len) (c .before .before .before .before .args .t .now))
+found c = sym (c .i .given .1) ∙ c .before .before .highest-at-or-below .ensures
 
 from-chunk-requires : tie.Need-from-chunk-requires
 from-chunk-requires c κs = (c .before .before .before .before .before .pre .0, pair-bound _ _ _ _ (found (c .before)))
@@ -33,14 +33,14 @@ returns : tie.Need-returns
 returns c =
     let k = c .before .before in
     let a = k .before .before .before .before .args in
-    c .from-chunk .ensures ∙ found-in (range (a .start) (a .end)) (tableSlots (a .len) (a .t .now)) (at (k .i .given .0 .0)) (found k)
+    c .from-chunk .ensures ∙ found-in (range (a .start) (a .end)) (tableSlots (a .len) (a .t .now)) (At (k .i .given .0 .0)) (found k)
 
 returns-2 : tie.Need-returns-2
 unfolding foundOf
 returns-2 c =
     let k = c .before .before in
     let a = k .before .before .args in
-    nothing-below (range (a .start) (a .end)) (tableSlots (a .len) (a .t .now)) (sym (ap placeOf (c .enum-told .given .1)) ∙ k .highest-at-or-below .ensures)
+    nothing-below (range (a .start) (a .end)) (tableSlots (a .len) (a .t .now)) (sym (c .enum-told .given .1) ∙ k .highest-at-or-below .ensures)
 
 pub find-in-table-spec : {M : Type 1} → statement M
 find-in-table-spec =

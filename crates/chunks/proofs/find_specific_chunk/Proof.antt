@@ -3,11 +3,11 @@ use native.Mathlib.Omega.{arith}
 use mathlib.Core.Path.{_≡_, sym, ap, _∙_}
 use Prim.Native.Nat.{_<_}
 use Rattle.memory_structs.specs.Range.{range}
-use Rattle.model.specs.Lists.{at, firstWhere}
+use Rattle.model.specs.Lists.{firstWhere}
+use Rattle.model.specs.declared.Place.the-variants.{At}
 use Rattle.model.specs.Requests.{find, chunks}
 use Rattle.model.specs.Rules.{tidy}
 use Rattle.model.specs.Store.{slotsOf}
-use Rattle.tables.specs.Words.{placeOf}
 use Rattle.tables.proofs.Touching.{tidy-rising}
 use Rattle.early.specs.Slots.{IsEarly, wants}
 use Rattle.early.specs.declared.Wanted.the-variants.{Holding}
@@ -41,8 +41,8 @@ enum-known-i : tie.Need-enum-known-i
 enum-known-i c = search needs
 
 -- the slot that was found
-found : (c : tie.After-i) → at (c .i .given .0 .0) ≡ firstWhere (wants (Holding (c .before .before .before .new .result))) (slotsOf (c .before .before .before .before .before .before .before .args .l .early))
-found c = sym (ap placeOf (c .i .given .1)) ∙ c .before .before .first-wanted .ensures
+found : (c : tie.After-i) → At (c .i .given .0 .0) ≡ firstWhere (wants (Holding (c .before .before .before .new .result))) (slotsOf (c .before .before .before .before .before .before .before .args .l .early))
+found c = sym (c .i .given .1) ∙ c .before .before .first-wanted .ensures
 
 slots : (c : tie.After-i) → IsEarly (c .before .before .before .before .before .before .before .args .l .early)
 slots c =
@@ -88,7 +88,7 @@ returns-3 c =
     let k = c .before .before in
     let b = k .before .before .before in
     let a = b .before .before .args in
-    none-holds (range (a .start) (a .end)) _ (k .before .new .ensures) (slotsOf (a .l .early)) (sym (ap placeOf (c .enum-told .given .1)) ∙ k .first-wanted .ensures)
+    none-holds (range (a .start) (a .end)) _ (k .before .new .ensures) (slotsOf (a .l .early)) (sym (c .enum-told .given .1) ∙ k .first-wanted .ensures)
     ∙ sym (at-early (λ b x. find b (range (a .start) (a .end)) x) (a .l) (a .t .now) (b .if1 .left))
 
 pub find-specific-chunk-spec : {M : Type 1} → statement M

@@ -4,7 +4,7 @@ use borrow.Author.Tests.{ne-eqb}
 use Rattle.memory_structs.specs.declared.range.FrameRange.{FrameRange}
 use Rattle.model.specs.declared.Kind.{Kind}
 use Rattle.commands.specs.Commands.{decoded}
-use Rattle.commands.specs.declared.Command.the-variants.{Return, KindOf, FreeTotal}
+use Rattle.commands.specs.declared.RunCall.the-variants.{Return, KindOf, FreeTotal}
 use Rattle.commands.specs.declared.Decoded.the-variants.{Make}
 use borrow.Author.Needs.{needs}
 use Rattle.commands.proofs.decode.Statement.{statement}

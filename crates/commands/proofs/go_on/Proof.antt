@@ -5,7 +5,7 @@ use mathlib.Core.Path.{_≡_}
 use Rattle.model.specs.Calls.{answer}
 use Rattle.model.proofs.Unchanged.{kind}
 use Rattle.rules.proofs.Numbers.{checked-ruled}
-use Rattle.commands.specs.Commands.{callOf}
+use Rattle.commands.specs.Commands.{callIn}
 use Rattle.commands.proofs.Making.{boot-in-list, byte-boot-in-list, made-as, made-gives, made-does, made-answers, made-held, made-request, total-question, long-held}
 use borrow.Author.Needs.{needs}
 use Rattle.commands.proofs.go_on.Statement.{statement}
@@ -79,7 +79,7 @@ same-length : tie.Need-same-length
 same-length c = search needs
 
 returns : tie.Need-returns
-unfolding callOf
+unfolding callIn
 returns c =
     let k = c .before .before .before in
     let s = c .before .before .before .before .before .before .before .before in
@@ -89,7 +89,7 @@ same-length-2 : tie.Need-same-length-2
 same-length-2 c = search needs
 
 returns-2 : tie.Need-returns-2
-unfolding callOf
+unfolding callIn
 returns-2 c =
     let k = c .before .before .before in
     let s = c .before .before .before .before .before .before .before .before in
@@ -99,7 +99,7 @@ same-length-3 : tie.Need-same-length-3
 same-length-3 c = search needs
 
 returns-3 : tie.Need-returns-3
-unfolding callOf
+unfolding callIn
 returns-3 c =
     let k = c .before .before .before .before in
     let s = c .before .before .before .before .before .before .before .before .before in
@@ -118,7 +118,7 @@ same-length-5 : tie.Need-same-length-5
 same-length-5 c = search needs
 
 returns-5 : tie.Need-returns-5
-unfolding callOf answer
+unfolding callIn answer
 returns-5 c =
     let k = c .before .before .before .before .before in
     let s = c .before .before .before .before .before .before .before .before .before .before in
@@ -128,7 +128,7 @@ same-length-6 : tie.Need-same-length-6
 same-length-6 c = search needs
 
 returns-6 : tie.Need-returns-6
-unfolding callOf answer
+unfolding callIn answer
 returns-6 c =
     let k = c .before .before .before .before in
     let s = c .before .before .before .before .before .before .before .before .before in
@@ -138,7 +138,7 @@ same-length-7 : tie.Need-same-length-7
 same-length-7 c = search needs
 
 returns-7 : tie.Need-returns-7
-unfolding callOf answer
+unfolding callIn answer
 returns-7 c =
     let k = c .before .before .before .before in
     let s = c .before .before .before .before .before .before .before .before .before in
@@ -151,7 +151,7 @@ same-length-9 : tie.Need-same-length-9
 same-length-9 c = search needs
 
 returns-8 : tie.Need-returns-8
-unfolding callOf
+unfolding callIn
 returns-8 c =
     let k = c .before .before .before .before .before .before in
     let s = c .before .before .before .before .before .before .before .before .before .before .before in

@@ -1,6 +1,6 @@
 -- `make_call`: refused by its number, or made.
 use lib.ListN.{length}
-use Rattle.commands.specs.Commands.{callOf}
+use Rattle.commands.specs.Commands.{callIn}
 use Rattle.commands.proofs.Making.{goes, made-refused}
 use borrow.Author.Needs.{needs}
 use Rattle.commands.proofs.make_call.Statement.{statement}
@@ -16,13 +16,13 @@ returns : tie.Need-returns
 returns c =
     let k = c .before .before in
     let s = k .before .before .before .before in
-    made-refused (callOf (s .args .areas .now) (length (s .args .held .now)) (s .args .command)) (s .args .a) (s .args .words .now) (s .args .held .now) _ _ (s .pre .0) (k .number-for .ensures (s .args .areas .now)) (c .before .if1 .taken) _ (c .refused .ensures)
+    made-refused (callIn (s .args .areas .now) (length (s .args .held .now)) (s .args .command)) (s .args .a) (s .args .words .now) (s .args .held .now) _ _ (s .pre .0) (k .number-for .ensures (s .args .areas .now)) (c .before .if1 .taken) _ (c .refused .ensures)
 
 go-on-requires : tie.Need-go-on-requires
 go-on-requires c κs =
     let e = c .before .before in
     let s = e .before .before .before .before .before in
-    (goes (callOf (s .args .areas .now) (length (s .args .held .now)) (s .args .command)) (s .args .a) (s .args .words .now) _ _ (s .pre .0) (e .before .number-for .ensures (s .args .areas .now)) (e .if1 .left), s .pre .1)
+    (goes (callIn (s .args .areas .now) (length (s .args .held .now)) (s .args .command)) (s .args .a) (s .args .words .now) _ _ (s .pre .0) (e .before .number-for .ensures (s .args .areas .now)) (e .if1 .left), s .pre .1)
 
 same-length : tie.Need-same-length
 same-length c = search needs

@@ -1,7 +1,7 @@
 -- `fill_lists`: the pieces twice, and the reserved areas twice.
 use borrow.Author.Needs.{needs}
 use Rattle.model.specs.Store.{recordOf, earlyIn, lengthIn}
-use Rattle.filling.specs.Filled.{filled}
+use Rattle.filling.specs.Filled.{filledRecord}
 use Rattle.filling.proofs.fill_lists.Statement.{statement}
 use Rattle.filling.proofs.fill_lists.Tie as tie
 
@@ -12,7 +12,7 @@ early-list-requires-2 : tie.Need-early-list-requires-2
 early-list-requires-2 c κs = search needs
 
 returns : tie.Need-returns
-unfolding filled recordOf earlyIn lengthIn
+unfolding filledRecord recordOf earlyIn lengthIn
 returns c = rw (c .before .early-list .ensures, c .early-list2 .ensures)
 
 pub fill-lists-spec : {M : Type 1} → statement M

@@ -7,10 +7,10 @@ use lib.Dec.{leb}
 use borrow.Author.Needs.{needs}
 use Rattle.memory_structs.specs.Range.{range}
 use Rattle.memory_structs.specs.declared.range.FrameRange.{FrameRange}
-use Rattle.model.specs.Lists.{at, nowhere, lastWhere, entries}
+use Rattle.model.specs.Lists.{lastWhere, entries}
+use Rattle.model.specs.declared.Place.the-variants.{Nowhere, At}
 use Rattle.model.specs.Rules.{tidy}
 use Rattle.model.specs.Store.{tableSlots}
-use Rattle.tables.specs.Words.{placeOf}
 use Rattle.tables.proofs.Search.{range-at}
 use Rattle.tables.proofs.Touching.{tidy-rising, pair-bound}
 use Rattle.lists.proofs.One.{as-early, as-table, at-sorted}
@@ -32,8 +32,8 @@ enum-known-i : tie.Need-enum-known-i
 enum-known-i c = search needs
 
 -- the pair that was found
-found : (c : tie.After-i) → at (c .i .given .0 .0) ≡ lastWhere (λ (r : FrameRange). leb (r .start) (c .before .before .before .before .before .before .args .end)) (tableSlots (c .before .before .before .before .before .before .args .l .len) (c .before .before .before .before .before .before .args .t .now))
-found c = sym (ap placeOf (c .i .given .1)) ∙ c .before .before .highest-at-or-below .ensures
+found : (c : tie.After-i) → At (c .i .given .0 .0) ≡ lastWhere (λ (r : FrameRange). leb (r .start) (c .before .before .before .before .before .before .args .end)) (tableSlots (c .before .before .before .before .before .before .args .l .len) (c .before .before .before .before .before .before .args .t .now))
+found c = sym (c .i .given .1) ∙ c .before .before .highest-at-or-below .ensures
 
 in-table : (c : tie.After-i) → (c .i .given .0 .0 < c .before .before .before .before .before .before .args .l .len) × (c .before .before .before .before .before .before .args .l .len ≤ 512) × (length (c .before .before .before .before .before .before .args .t .now) ≡ 1024)
 in-table c =
@@ -65,7 +65,7 @@ returns-2 c =
     let s = m .before .before .before in
     let a = s .args in
     ap (λ (r : FrameRange). leb (a .start) (r .end)) (range-at (a .l .len) (k .i .given .0 .0) (a .t .now) (pair-bound _ _ _ _ (found k)))
-    ∙ met-sorted (range (a .start) (a .end)) (a .l) (a .t .now) (m .before .if1 .left) (m .if2 .taken) (s .pre .1) (at (k .i .given .0 .0)) (found k)
+    ∙ met-sorted (range (a .start) (a .end)) (a .l) (a .t .now) (m .before .if1 .left) (m .if2 .taken) (s .pre .1) (At (k .i .given .0 .0)) (found k)
 
 returns-3 : tie.Need-returns-3
 unfolding reaches
@@ -73,7 +73,7 @@ returns-3 c =
     let k = c .before .before in
     let s = k .before .before .before .before in
     let a = s .args in
-    met-sorted (range (a .start) (a .end)) (a .l) (a .t .now) (k .before .before .if1 .left) (k .before .if2 .taken) (s .pre .1) nowhere (sym (ap placeOf (c .enum-told .given .1)) ∙ k .highest-at-or-below .ensures)
+    met-sorted (range (a .start) (a .end)) (a .l) (a .t .now) (k .before .before .if1 .left) (k .before .if2 .taken) (s .pre .1) Nowhere (sym (c .enum-told .given .1) ∙ k .highest-at-or-below .ensures)
 
 meets-from-requires : tie.Need-meets-from-requires
 meets-from-requires c κs =

@@ -7,11 +7,11 @@ use lib.ListN.{length}
 use lib.Dec.{eqb}
 use Rattle.memory_structs.specs.Range.{range}
 use Rattle.memory_structs.specs.declared.range.FrameRange.{FrameRange}
-use Rattle.model.specs.Lists.{at, nowhere, firstWhere, rangeAt, insert}
+use Rattle.model.specs.Lists.{firstWhere, rangeAt, insert}
+use Rattle.model.specs.declared.Place.the-variants.{Nowhere, At}
 use Rattle.model.specs.Returns.{given}
 use Rattle.model.specs.Rules.{tidy}
 use Rattle.model.specs.Store.{tableSlots}
-use Rattle.tables.specs.Words.{placeOf}
 use Rattle.tables.proofs.Search.{range-at}
 use Rattle.lists.specs.One.{slotsIn}
 use Rattle.lists.proofs.One.{as-table, at-sorted}
@@ -38,8 +38,8 @@ enum-known-i : tie.Need-enum-known-i
 enum-known-i c = search needs
 
 -- the pair above
-above : (c : tie.After-i) → let a = c .before .before .before .before .before .args in at (c .i .given .0 .0) ≡ firstWhere (λ (r : FrameRange). eqb (r .start) (a .end + 1)) (tableSlots (a .l .len) (a .t .now))
-above c = sym (ap placeOf (c .i .given .1)) ∙ c .before .before .starting-at .ensures
+above : (c : tie.After-i) → let a = c .before .before .before .before .before .args in At (c .i .given .0 .0) ≡ firstWhere (λ (r : FrameRange). eqb (r .start) (a .end + 1)) (tableSlots (a .l .len) (a .t .now))
+above c = sym (c .i .given .1) ∙ c .before .before .starting-at .ensures
 
 above-in : (c : tie.After-i) → let a = c .before .before .before .before .before .args in (c .i .given .0 .0 < a .l .len) × (a .l .len ≤ 512) × (length (a .t .now) ≡ 1024)
 above-in c =
@@ -93,12 +93,12 @@ enum-known-i-2 : tie.Need-enum-known-i-2
 enum-known-i-2 c = search needs
 
 -- no pair above
-none-above : (c : tie.After-enum-told) → let a = c .before .before .before .before .before .args in nowhere ≡ firstWhere (λ (r : FrameRange). eqb (r .start) (a .end + 1)) (tableSlots (a .l .len) (a .t .now))
-none-above c = sym (ap placeOf (c .enum-told .given .1)) ∙ c .before .before .starting-at .ensures
+none-above : (c : tie.After-enum-told) → let a = c .before .before .before .before .before .args in Nowhere ≡ firstWhere (λ (r : FrameRange). eqb (r .start) (a .end + 1)) (tableSlots (a .l .len) (a .t .now))
+none-above c = sym (c .enum-told .given .1) ∙ c .before .before .starting-at .ensures
 
 -- the pair below
-under : (c : tie.After-i2) → let a = c .before .before .before .before .before .before .before .before .before .args in at (c .i2 .given .0 .0) ≡ firstWhere (λ (r : FrameRange). eqb (r .end + 1) (a .start)) (tableSlots (a .l .len) (a .t .now))
-under c = sym (ap placeOf (c .i2 .given .1)) ∙ c .before .before .ending-below .ensures
+under : (c : tie.After-i2) → let a = c .before .before .before .before .before .before .before .before .before .args in At (c .i2 .given .0 .0) ≡ firstWhere (λ (r : FrameRange). eqb (r .end + 1) (a .start)) (tableSlots (a .l .len) (a .t .now))
+under c = sym (c .i2 .given .1) ∙ c .before .before .ending-below .ensures
 
 under-in : (c : tie.After-i2) → let a = c .before .before .before .before .before .before .before .before .before .args in (c .i2 .given .0 .0 < a .l .len) × (a .l .len ≤ 512) × (length (a .t .now) ≡ 1024)
 under-in c =
@@ -151,7 +151,7 @@ add-chunk-requires c κs =
       (
         tidy-slotted (a .l .sorted) (slotsIn (a .l) (a .t .now)) (s .pre .1 .0),
         at-sorted (λ b x. given b r x) (a .l) (a .t .now) (s .pre .1 .1 .0)
-            ∙ found-neither r (tableSlots (a .l .len) (a .t .now)) (none-above e) (sym (ap placeOf (m .enum-told2 .given .1)) ∙ m .before .before .ending-below .ensures)
+            ∙ found-neither r (tableSlots (a .l .len) (a .t .now)) (none-above e) (sym (m .enum-told2 .given .1) ∙ m .before .before .ending-below .ensures)
             ∙ sym (at-sorted (λ b x. insert b r x) (a .l) (a .t .now) (s .pre .1 .1 .0)),
       ),
     )

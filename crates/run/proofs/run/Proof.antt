@@ -113,8 +113,8 @@ make-call-requires c κs =
     let k = d .before .before in
     (c .before .before .before .before .before .before .before .before .before .before .before .loop .inv .tested, decoded-in-list _ _ _ _ _ (sym (d .decoded .given .1) ∙ k .decode .ensures))
 
-write-answer-requires : tie.Need-write-answer-requires Inv-loop μ-loop
-write-answer-requires c κs = omega arith
+put-answer-requires : tie.Need-put-answer-requires Inv-loop μ-loop
+put-answer-requires c κs = omega arith
 
 add-made : tie.Need-add-made Inv-loop μ-loop
 add-made c = omega (arith, mul-i (c .before .before .before .before .before .before .before .before .before .before .before .before .before .before .before .before .before .before .before .before))
@@ -129,7 +129,7 @@ loop-again c =
     let d = m .before .before .before .before .before in
     let k = d .before .before in
     let i = k .before .before .before .before .before in
-    reached-next (i .loop .inv) (omega arith) _ _ (k .decode .ensures) (d .decoded .given .1) (omega arith) (m .make-call .ensures) _ (w .write-answer .ensures) (omega (arith, c .before .before .before .before .before .before .before .before .words .given)) (omega (arith, c .before .before .answers .given)) (omega (arith, c .before .before .before .before .before .before .held .given))
+    reached-next (i .loop .inv) (omega arith) _ _ (k .decode .ensures) (d .decoded .given .1) (omega arith) (m .make-call .ensures) _ (w .put-answer .ensures) (omega (arith, c .before .before .before .before .before .before .before .before .words .given)) (omega (arith, c .before .before .answers .given)) (omega (arith, c .before .before .before .before .before .before .held .given))
 
 ended-requires-3 : tie.Need-ended-requires-3 Inv-loop μ-loop
 ended-requires-3 c κs = search needs
@@ -181,7 +181,7 @@ run-spec =
     same-length-6
     returns-2
     make-call-requires
-    write-answer-requires
+    put-answer-requires
     add-made
     loop-less
     loop-again

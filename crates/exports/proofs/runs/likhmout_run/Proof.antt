@@ -46,14 +46,14 @@ use Rattle.exports.specs.Runs.{counted, RunsInPlace}
 use Rattle.exports.proofs.InPlace.{in-place}
 use Rattle.model.specs.declared.FrameAllocator.{FrameAllocator}
 use Rattle.run.specs.declared.Ran.{Ran}
-use Rattle.run.specs.declared.RunEnd.{RunEnd}
+use Rattle.run.specs.declared.Ending.{Ending}
 use Rattle.exports.specs.declared.runs.RunCounts.{RunCounts}
 use Rattle.model.proofs.FrameAllocator as S
 use Rattle.model.proofs.FrameAllocator.Laws as S′
 use Rattle.run.proofs.Ran as T
 use Rattle.run.proofs.Ran.Laws as T′
-use Rattle.run.proofs.RunEnd as E
-use Rattle.run.proofs.RunEnd.Laws as E′
+use Rattle.run.proofs.Ending as E
+use Rattle.run.proofs.Ending.Laws as E′
 use Rattle.exports.proofs.runs.RunCounts as N
 use Rattle.exports.proofs.runs.RunCounts.Laws as N′
 use Rattle.run.proofs.run as core
@@ -76,8 +76,8 @@ stayed = (stay-ref (0 ∷ []) tt (plain (λ _. S.the-row)), (gave-slice (1 ∷ [
 abbrev of-state : FrameAllocator → Val
 of-state = LL.val S.the-type S′.the-laws
 
-abbrev of-end : RunEnd → Val
-of-end = EL.val E.the-type E′.the-laws
+abbrev of-ending : Ending → Val
+of-ending = LL.val E.the-type E′.the-laws
 
 abbrev of-counts : RunCounts → Val
 of-counts = LL.val N.the-type N′.the-laws
@@ -90,8 +90,8 @@ module _ {M : Type 1} (𝓤 : URA M) (H : Heap 𝓤) (A : Atoms 𝓤) (mem : Mem
   abbrev Count : Contract 𝓤
   Count = tripleOf 𝓤 H A count.signature (count.spec 𝓤 H A mem run)
 
-  count-of : (n : ℕ) (d : RunEnd) (c : RunCounts) → ent 𝓤 (ensured 𝓤 H A count.ended (count.clauses 𝓤 H A mem run) tt (n, (d, tt)) tt c) (fact 𝓤 (c ≡ counted n d))
-  count-of n d c = exE 𝓤 _ (λ us. snd∗ 𝓤 (sem 𝓤 H A (lasts count.ended tt (n, (d, tt)) us)) (fact 𝓤 (c ≡ counted n d)))
+  count-of : (d : Ending) (c : RunCounts) → ent 𝓤 (ensured 𝓤 H A count.ended (count.clauses 𝓤 H A mem run) tt (d, tt) tt c) (fact 𝓤 (c ≡ counted d))
+  count-of d c = exE 𝓤 _ (λ us. snd∗ 𝓤 (sem 𝓤 H A (lasts count.ended tt (d, tt) us)) (fact 𝓤 (c ≡ counted d)))
 
 module _ {M : Type 1} (𝓤 : URA M) (H : Heap 𝓤) (A : Atoms 𝓤) (W : Given 𝓤 H A) (at-mem : Memory → SProp 𝓤) (run : Routine → Fun 𝓤) (κ κ₁ κ₂ κ₃ κ₄ κ₅ : Lft) (q q₁ q₂ q₃ q₄ q₅ : Share) (b o : ℕ) (γ : GName) (h : FrameAllocator)
     (words calls areas answers held : RefT (List ℕ)) where
@@ -130,10 +130,10 @@ module _ {M : Type 1} (𝓤 : URA M) (H : Heap 𝓤) (A : Atoms 𝓤) (W : Given
       owned ! S.the-row (Is S.the-row) (LL.makes S.the-type S′.the-plain 𝓤 H A) h _ g $ fjoin ! $ move ! (1 ∷ 0 ∷ []) $ join ! $ frame ! $ done !
 
   abbrev to-count : Ran → Count 𝓤 H A at-mem run .Ghost
-  to-count r = ((tt, tt, tt, (r .made, (r .end, tt)), (vint w64 (r .made) ∷ [], (of-end (r .end) ∷ [], tt))), tt)
+  to-count r = ((tt, tt, tt, (r .ending, tt), (of-ending (r .ending) ∷ [], tt)), tt)
 
-  goes-count : (r : Ran) → ent 𝓤 (sep 𝓤 (sem 𝓤 H A ftrue) (sem 𝓤 H A (owns (u64 ∷ E.the-row ∷ []) (r .made, (r .end, tt)) (vint w64 (r .made) ∷ [], (of-end (r .end) ∷ [], tt))))) (Count 𝓤 H A at-mem run .pre (to-count r))
-  goes-count r = qed W (‵ ftrue ∷ ‵ (owns (u64 ∷ E.the-row ∷ []) (r .made, (r .end, tt)) (vint w64 (r .made) ∷ [], (of-end (r .end) ∷ [], tt))) ∷ []) ∵ join ! $ frame ! $ done !
+  goes-count : (r : Ran) → ent 𝓤 (sep 𝓤 (sem 𝓤 H A ftrue) (sem 𝓤 H A (owns (E.the-row ∷ []) (r .ending, tt) (of-ending (r .ending) ∷ [], tt)))) (Count 𝓤 H A at-mem run .pre (to-count r))
+  goes-count r = qed W (‵ ftrue ∷ ‵ (owns (E.the-row ∷ []) (r .ending, tt) (of-ending (r .ending) ∷ [], tt)) ∷ []) ∵ join ! $ frame ! $ done !
 
   exits : (c : RunCounts) (z : FrameAllocator) (ws xs hs : List ℕ) → RunsInPlace (areas .now) (calls .now) h (words .now) (answers .now) (held .now) c z ws xs hs → length ws ≡ length (words .now) → length xs ≡ length (answers .now) → length hs ≡ length (held .now) → Is N.the-row c (of-counts c ∷ [])
       → ent 𝓤 (⋆ 𝓤 H A (‵ (fobs γ (S.the-row .coded .code z)) ∷ ‵ (fbor κ (Body (mem S.the-row) b o γ)) ∷ ‵ (flft κ q) ∷ (‵ (flft κ₁ q₁) ⊛ ‵ (flft κ₂ q₂) ⊛ ‵ (flft κ₃ q₃) ⊛ ‵ (flft κ₄ q₄) ⊛ ‵ (flft κ₅ q₅) ⊛ ‵ ftrue) ∷ ‵ (finally u64 (held .name) hs) ∷ ‵ (finally u64 (answers .name) xs) ∷ ‵ (finally u64 (words .name) ws) ∷ ‵ Areas ∷ ‵ Calls ∷ [])) (Post (of-counts c))
@@ -180,16 +180,15 @@ module _ {M : Type 1} (𝓤 : URA M) (H : Heap 𝓤) (A : Atoms 𝓤) (W : Given
         -- [the last lists of held, answers and words; the tokens and what the run hands back; what areas and calls own; the record's cell; …]
         move ! (3 ∷ []) $ split ! $ move ! (1 ∷ []) $ peeks ! T.the-row (Is T.the-row) (shows 𝓤 H A T.the-row) r (w ∷ []) (λ is.
         land ! (from ! (stop !)) (init ! 26 refl (LL.lawful T.the-type T′.the-laws 𝓤 H A W .typed r _ is .0)) $ rewrite ! 26 (λ (u : Val). ‵ (fat fullShare T′.mir l₇ 0 u)) (ap only (LL.tells T.the-type T′.the-laws r _ is)) refl $
-        assigns ! (of-opd ! (load ! (from ! (fld ! refl (stop !))) (look-in ! 26 (sub ! 0 refl (whole !))))) (from ! (hop ! (look ! 38 refl) (stop !))) (store-raw ! 7 refl (LL.lawful S.the-type S′.the-laws 𝓤 H A W .typed (r .allocator) _ (LL.owed T.the-type T′.the-laws r _ is .0) .0)) $
+        assigns ! (of-opd ! (load ! (from ! (fld ! refl (stop !))) (look-in ! 26 (sub ! 1 refl (whole !))))) (from ! (hop ! (look ! 38 refl) (stop !))) (store-raw ! 7 refl (LL.lawful S.the-type S′.the-laws 𝓤 H A W .typed (r .allocator) _ (LL.owed T.the-type T′.the-laws r _ is .1 .0) .0)) $
         -- the borrow is closed at the record that came back
-        move ! (8 ∷ []) $ drop ! $ owned ! S.the-row (Is S.the-row) (LL.makes S.the-type S′.the-plain 𝓤 H A) (r .allocator) _ (LL.owed T.the-type T′.the-laws r _ is .0) $
+        move ! (8 ∷ []) $ drop ! $ owned ! S.the-row (Is S.the-row) (LL.makes S.the-type S′.the-plain 𝓤 H A) (r .allocator) _ (LL.owed T.the-type T′.the-laws r _ is .1 .0) $
         move ! (8 ∷ 0 ∷ 9 ∷ 10 ∷ 11 ∷ []) $ closes ! tt S.the-row (r .allocator) (of-state (r .allocator) ∷ []) b o $
         -- [obs; the borrow; its token; what the run hands back; the others' tokens; the last lists; what areas and calls own; _14; …]: the counts
-        nothing ! $ owned ! E.the-row (Is E.the-row) (EL.makes E.the-type E′.the-plain 𝓤 H A) (r .end) _ (LL.owed T.the-type T′.the-laws r _ is .1 .1 .0) $ fjoin ! $
-        owned ! u64 (Is u64) (uint-makes 𝓤 H A W w64) (r .made) _ (LL.owed T.the-type T′.the-laws r _ is .1 .0) $ fjoin ! $ nothing ! $ use2 W (raw (Count 𝓤 H A at-mem run .pre (to-count r))) (goes-count r) $
-        calls-at ! (fmOf 𝓤 H (W .laws) 𝓣) (Count 𝓤 H A at-mem run) known-count (to-count r) (and-then ! (load ! (from ! (fld ! refl (stop !))) (look-in ! 25 (sub ! 1 refl (whole !)))) (and-then ! (load ! (from ! (fld ! refl (stop !))) (look-in ! 25 (sub ! 2 refl (whole !)))) (no-more !))) (λ w′.
-        use1 W (later (some (λ (c : RunCounts). (‵ ftrue ⊛ ‵ (N.the-row .own c (w′ ∷ []))) ⊛ raw (ensured 𝓤 H A count.ended (count.clauses 𝓤 H A at-mem run) tt (r .made, (r .end, tt)) tt c)))) (id⊢ 𝓤 _) $ await ! tt $ pick ! (λ c.
-        split ! $ move ! (1 ∷ []) $ use1 W (raw (fact 𝓤 (c ≡ counted (r .made) (r .end)))) (count-of 𝓤 H A at-mem run (r .made) (r .end) c) $ heard ! (c ≡ counted (r .made) (r .end)) (λ e′. split ! $ drop ! $
+        nothing ! $ owned ! E.the-row (Is E.the-row) (LL.makes E.the-type E′.the-plain 𝓤 H A) (r .ending) _ (LL.owed T.the-type T′.the-laws r _ is .0) $ fjoin ! $ nothing ! $ use2 W (raw (Count 𝓤 H A at-mem run .pre (to-count r))) (goes-count r) $
+        calls-at ! (fmOf 𝓤 H (W .laws) 𝓣) (Count 𝓤 H A at-mem run) known-count (to-count r) (and-then ! (load ! (from ! (fld ! refl (stop !))) (look-in ! 25 (sub ! 0 refl (whole !)))) (no-more !)) (λ w′.
+        use1 W (later (some (λ (c : RunCounts). (‵ ftrue ⊛ ‵ (N.the-row .own c (w′ ∷ []))) ⊛ raw (ensured 𝓤 H A count.ended (count.clauses 𝓤 H A at-mem run) tt (r .ending, tt) tt c)))) (id⊢ 𝓤 _) $ await ! tt $ pick ! (λ c.
+        split ! $ move ! (1 ∷ []) $ use1 W (raw (fact 𝓤 (c ≡ counted (r .ending)))) (count-of 𝓤 H A at-mem run (r .ending) c) $ heard ! (c ≡ counted (r .ending)) (λ e′. split ! $ drop ! $
         peeks ! N.the-row (Is N.the-row) (shows 𝓤 H A N.the-row) c (w′ ∷ []) (λ is′.
         land ! (from ! (stop !)) (init ! 39 refl (LL.lawful N.the-type N′.the-laws 𝓤 H A W .typed c _ is′ .0)) $ rewrite ! 39 (λ (u : Val). ‵ (fat fullShare N′.mir l₀ 0 u)) (ap only (LL.tells N.the-type N′.the-laws c _ is′)) refl $
         returns ! (look ! 39 refl) $ forget ! 11 refl $ forget ! 13 refl $ forget ! 15 refl $ forget ! 17 refl $ forget ! 19 refl $ forget ! 21 refl $ forget ! 23 refl $ forget ! 25 refl $ forget ! 27 refl $ forget ! 29 refl $ forget ! 31 refl $ forget ! 33 refl $ forget ! 35 refl $ forget ! 37 refl $ forget ! 39 refl $

@@ -1,10 +1,10 @@
--- `write_answer`: five stores, side by side.
+-- `put_answer`: five stores, side by side.
 use lib.ListN.{length-set}
 use Rattle.run.proofs.Along.{five-stores}
 use native.Mathlib.Omega.{arith}
 use borrow.Author.Needs.{needs}
-use Rattle.run.proofs.write_answer.Statement.{statement}
-use Rattle.run.proofs.write_answer.Tie as tie
+use Rattle.run.proofs.put_answer.Statement.{statement}
+use Rattle.run.proofs.put_answer.Tie as tie
 
 mul-answers : tie.Need-mul-answers
 mul-answers c = search needs
@@ -54,8 +54,8 @@ same-length c = search needs
 returns : tie.Need-returns
 returns c = five-stores _ _ _ (c .pre)
 
-pub write-answer-spec : {M : Type 1} → statement M
-write-answer-spec =
+pub put-answer-spec : {M : Type 1} → statement M
+put-answer-spec =
     tie.close
     (tie.spec
     mul-answers
