@@ -33,7 +33,8 @@ fn count(ending: Ending) -> RunCounts
     ensures { λ r. ⌜ r ≡ counted ending ⌝ }
 {
     let made = ending.made;
-    match ending.end {
+    let end = ending.end;
+    match end {
         RunEnd::Done => RunCounts { made, end: 0 },
         RunEnd::Damaged => RunCounts { made, end: 1 },
         RunEnd::NoRoom => RunCounts { made, end: 2 },
