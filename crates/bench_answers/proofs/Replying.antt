@@ -4,19 +4,16 @@ use Prim.Native.Nat.{ℕ, _≤_, _<_}
 use mathlib.Core.Path.{_≡_, refl, sym, ap, subst, _∙_}
 use mathlib.Core.List.{List, [], _∷_, _++_}
 use lib.ListN.{length}
-use mathlib.Core.Bool.{false}
-use lib.Dec.{eqb}
-use borrow.Author.Tests.{lt-ltb, le-ltb, eq-eqb, ne-eqb}
+use borrow.Author.Tests.{lt-ltb, le-ltb}
 use Rattle.model.specs.Calls.{Call, call, Gives}
-use Rattle.model.specs.Requests.{withoutFrames}
-use Rattle.model.specs.Store.{load}
 use Rattle.model.specs.declared.Answer.{Answer}
 use Rattle.model.specs.declared.Area.{Area}
 use Rattle.model.specs.declared.Called.{Called}
 use Rattle.model.specs.declared.Kind.{Kind}
 use Rattle.model.specs.declared.Kind.the-variants.{General, Reserved}
 use Rattle.areas.specs.Areas.{triples}
-use Rattle.rules.specs.Check.{checked, refusedWith}
+use Rattle.rules.specs.Check.{Ruled}
+use Rattle.rules.proofs.Lasting.{fresh-ruled, gives-ruled}
 use Rattle.bench_areas.specs.declared.AreaCounts.{AreaCounts}
 use Rattle.bench_areas.specs.declared.Collecting.{Collecting}
 use Rattle.bench_areas.specs.declared.Collecting.the-variants.{Taken, Full}
@@ -24,7 +21,7 @@ use Rattle.bench_areas.specs.Areas.{Room, Collects, noAreas, countOf, howMany, 
 use Rattle.bench_texts.specs.Texts.{Puts, badLine, answerLine}
 use Rattle.bench_answers.specs.declared.Bench.{Bench}
 use Rattle.bench_answers.specs.declared.Reply.{Reply}
-use Rattle.bench_answers.specs.Answered.{State, Answered, saying, collecting, calling, fourLines, listText, firstState}
+use Rattle.bench_answers.specs.Answered.{State, Answered, saying, collecting, calling, firstState}
 use Rattle.bench_answers.specs.Replies.{Ready, Replies, Gathers, Says, replyRoom, firstBench, stateOf, withRecord}
 
 -- before the first line
@@ -32,80 +29,75 @@ pub first-state : (areas ws : List ℕ) → stateOf firstBench areas ws ≡ firs
 unfolding firstState triples
 first-state areas ws = refl
 
-pub first-ready : {out areas : List ℕ} → replyRoom ≤ length out → 384 ≤ length areas → Ready firstBench out areas
+pub first-ready : {out areas words : List ℕ} → replyRoom ≤ length out → 384 ≤ length areas → 4096 ≤ length words → Ready firstBench out areas words
 unfolding countOf howMany triples
-first-ready wide long = record {
+first-ready {words = words} wide long enough = record {
   printing = wide;
   collecting = record {
     few = record { general-few = omega arith; reserved-few = omega arith };
     long = long;
     counted = none;
   };
+  ruled = fresh-ruled words enough;
 }
   where
     none : (k : Kind) → countOf k noAreas ≡ howMany k []
     none General = refl
     none Reserved = refl
 
-module _ {b : Bench} {out out-after areas : List ℕ} {r : Reply} (same : length out-after ≡ length out) (ready : Ready b out areas) where
+module _ {b : Bench} {out out-after areas : List ℕ} {r : Reply} (same : length out-after ≡ length out) where
   -- a text alone
-  pub says : {t ws : List ℕ} → Says t b out r out-after → Replies (saying t (stateOf b areas ws)) out r out-after areas ws
-  says {t} {ws} s = record {
+  pub says : {t ws : List ℕ} → Ready b out areas ws → Says t b out r out-after → Replies (saying t (stateOf b areas ws)) out r out-after areas ws
+  says {t} {ws} ready s = record {
     state = ap (λ (x : Bench). stateOf x areas ws) (s .bench);
     text = s .text;
-    ready = record { printing = omega (arith, ready .printing); collecting = subst (λ (x : Bench). Room (x .counts) areas) (sym (s .bench)) (ready .collecting) };
+    ready = record {
+      printing = omega (arith, ready .printing);
+      collecting = subst (λ (x : Bench). Room (x .counts) areas) (sym (s .bench)) (ready .collecting);
+      ruled = subst (λ (x : Bench). Ruled (x .allocator) ws) (sym (s .bench)) (ready .ruled);
+    };
   }
 
   -- a call, whose record the bench goes on with
-  pub tells : {c : Call} {ws after : List ℕ} {called : Called} → Gives c (b .allocator) ws called after →
+  pub tells : {c : Call} {ws after : List ℕ} {called : Called} → Ready b out areas ws → Gives c (b .allocator) ws called after →
       Says (answerLine (called .answer)) (withRecord (called .allocator) b) out r out-after → Replies (calling c (stateOf b areas ws)) out r out-after areas after
   unfolding calling
-  tells {c} {ws} {after} {called} g s = record {
+  tells {c} {ws} {after} {called} ready g s = record {
     state =
         ap (λ (x : Bench). stateOf x areas after) (s .bench)
         ∙ (λ i. record { areas = collected (b .counts) areas; allocator = g .records i; words = g .words i });
     text = subst (λ (x : Answer). Puts (answerLine x) out 0 out-after (r .len)) (g .answers) (s .text);
-    ready = record { printing = omega (arith, ready .printing); collecting = subst (λ (x : Bench). Room (x .counts) areas) (sym (s .bench)) (ready .collecting) };
+    ready = record {
+      printing = omega (arith, ready .printing);
+      collecting = subst (λ (x : Bench). Room (x .counts) areas) (sym (s .bench)) (ready .collecting);
+      ruled = subst (λ (x : Bench). Ruled (x .allocator) after) (sym (s .bench)) (gives-ruled g (ready .ruled));
+    };
   }
 
-  module _ (a : Area) {x : Collecting} {after : List ℕ} (h : Collects a (b .counts) areas x after) where
+  module _ (wide : replyRoom ≤ length out) (room : Room (b .counts) areas) (a : Area) {x : Collecting} {after : List ℕ} (h : Collects a (b .counts) areas x after) where
     -- an area more
     pub taken : {d : AreaCounts} → x ≡ Taken d → Says [] (record { allocator = b .allocator; counts = d }) out r out-after → Gathers a b out areas r out-after after
     unfolding Collects collecting
-    taken {d} e s ws =
+    taken {d} e s ws ruled =
         let did = subst (λ (y : Collecting). Collects a (b .counts) areas y after) e h in
-        let few : howMany (a .kind) (collected (b .counts) areas) < 64 = omega (arith, did .0, ready .collecting .counted (a .kind)) in
+        let few : howMany (a .kind) (collected (b .counts) areas) < 64 = omega (arith, did .0, room .counted (a .kind)) in
         rw (lt-ltb (howMany (a .kind) (collected (b .counts) areas)) 64 few) (record {
           state =
               ap (λ (y : Bench). stateOf y after ws) (s .bench)
               ∙ ap (λ (xs : List Area). record { areas = xs; allocator = b .allocator; words = ws }) (did .1 .areas);
           text = s .text;
-          ready = record { printing = omega (arith, ready .printing); collecting = subst (λ (y : Bench). Room (y .counts) after) (sym (s .bench)) (did .1 .room) };
+          ready = record {
+            printing = omega (arith, wide);
+            collecting = subst (λ (y : Bench). Room (y .counts) after) (sym (s .bench)) (did .1 .room);
+            ruled = subst (λ (y : Bench). Ruled (y .allocator) ws) (sym (s .bench)) ruled;
+          };
         })
 
     -- "the 65th of a kind is `(bad)`"
     pub full : x ≡ Full → Says badLine b out r out-after → Gathers a b out areas r out-after after
     unfolding Collects collecting
-    full e s ws =
+    full e s ws ruled =
         let did = subst (λ (y : Collecting). Collects a (b .counts) areas y after) e h in
-        let many : 64 ≤ howMany (a .kind) (collected (b .counts) areas) = omega (arith, did .0, ready .collecting .counted (a .kind)) in
+        let many : 64 ≤ howMany (a .kind) (collected (b .counts) areas) = omega (arith, did .0, room .counted (a .kind)) in
         rw (le-ltb (howMany (a .kind) (collected (b .counts) areas)) 64 many)
-        (subst (λ (xs : List ℕ). Replies (saying badLine (stateOf b areas ws)) out r out-after xs ws) (sym (did .1)) (says s))
-
--- `(list)`: where the rules are broken, a refusal as by any call
-pub refused-says : (b : Bench) (ws : List ℕ) {n : ℕ} {called : Called} {out out-after : List ℕ} {r : Reply} → n ≡ checked (b .allocator) ws → (n ≡ 0 → ⊥) →
-    called ≡ refusedWith n (b .allocator) → Says (answerLine (called .answer)) (withRecord (called .allocator) b) out r out-after →
-    Says (listText (b .allocator) ws) b out r out-after
-unfolding listText answerLine
-refused-says b ws {n} {called} {out} {out-after} {r} is some refusal s =
-    let no : eqb (checked (b .allocator) ws) 0 ≡ false = ne-eqb (checked (b .allocator) ws) 0 (λ z. some (is ∙ z)) in
-    let told = subst (λ (x : Called). Says (answerLine (x .answer)) (withRecord (x .allocator) b) out r out-after) refusal s in
-    let named = subst (λ (k : ℕ). Says (answerLine (withoutFrames k 0)) b out r out-after) is told in
-    rw no (rw no at named)
-
--- and else the four lists
-pub listed-says : (b : Bench) (ws : List ℕ) {n len : ℕ} {out out-after : List ℕ} → n ≡ checked (b .allocator) ws → n ≡ 0 →
-    Puts (fourLines (load (b .allocator) ws)) out 0 out-after len → Says (listText (b .allocator) ws) b out (record { bench = b; len = len }) out-after
-unfolding listText
-listed-says b ws {n} {len} {out} {out-after} is none p =
-    rw (eq-eqb (checked (b .allocator) ws) 0 (sym is ∙ none)) (record { bench = refl; text = p })
+        (subst (λ (xs : List ℕ). Replies (saying badLine (stateOf b areas ws)) out r out-after xs ws) (sym (did .1)) (says (record { printing = wide; collecting = room; ruled = ruled }) s))

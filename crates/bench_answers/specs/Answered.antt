@@ -2,7 +2,7 @@
 use Prim.Native.Nat.{ℕ}
 use mathlib.Core.Bool.{cond}
 use mathlib.Core.List.{List, [], _∷_, _++_}
-use lib.Dec.{ltb, eqb}
+use lib.Dec.{ltb}
 use Rattle.memory_structs.specs.Range.{range}
 use Rattle.model.specs.Lists.{Lists}
 use Rattle.model.specs.Store.{load}
@@ -10,13 +10,12 @@ use Rattle.model.specs.Calls.{Call, call, bootCall, sortCall, countCall, addres
 use Rattle.model.specs.declared.Area.{Area}
 use Rattle.model.specs.declared.FrameAllocator.{FrameAllocator}
 use Rattle.model.specs.declared.Kind.the-variants.{General, Reserved}
-use Rattle.rules.specs.Check.{checked}
 use Rattle.lists.specs.declared.record.WhichList.the-variants.{GeneralFree, ReservedFree, GeneralRegions, ReservedRegions}
 use Rattle.bench_areas.specs.Areas.{howMany}
 use Rattle.bench_lines.specs.Commands.{commandOf}
 use Rattle.bench_lines.specs.declared.Command.{Command}
 use Rattle.bench_lines.specs.declared.Command.the-variants.{Free, Reserved as ReservedArea, Boot, Sort, Count, At, Give, Lists as TheLists, Bad}
-use Rattle.bench_texts.specs.Texts.{badLine, refusalLine, answerLine}
+use Rattle.bench_texts.specs.Texts.{badLine, answerLine}
 use Rattle.bench_lists.specs.ListLines.{lineOf}
 
 -- what is kept from line to line: the areas collected so far, the record and its workspace
@@ -52,13 +51,9 @@ calling c s = record {
   text = answerLine (call c (s .allocator) (s .words) .answer);
 }
 
--- "the four lists in stored order"
+-- "`(list)` prints the four lists in stored order"
 unfoldable pub fourLines : Lists → List ℕ
 fourLines l = lineOf GeneralFree l ++ (lineOf ReservedFree l ++ (lineOf GeneralRegions l ++ lineOf ReservedRegions l))
-
--- "`(list)` prints the four lists": a record that breaks the rules has none, and is refused as by any call
-unfoldable pub listText : FrameAllocator → List ℕ → List ℕ
-listText a ws = cond (eqb (checked a ws) 0) (fourLines (load a ws)) (refusalLine (checked a ws))
 
 -- "S and E are first and last frame, N a count."
 unfoldable pub answered : Command → State → Answered
@@ -69,7 +64,7 @@ answered Sort = calling sortCall
 answered (Count n) = calling (countCall n)
 answered (At s n) = calling (addressCall s n)
 answered (Give s e) = calling (returnCall (range s e))
-answered TheLists = λ s. saying (listText (s .allocator) (s .words)) s
+answered TheLists = λ s. saying (fourLines (load (s .allocator) (s .words))) s
 answered Bad = saying badLine
 
 -- one line after another: what is kept after them, and what they print

@@ -6,6 +6,7 @@ use lib.ListN.{length}
 use Rattle.model.specs.Calls.{freshRecord}
 use Rattle.model.specs.declared.Area.{Area}
 use Rattle.model.specs.declared.FrameAllocator.{FrameAllocator}
+use Rattle.rules.specs.Check.{Ruled}
 use Rattle.bench_areas.specs.Areas.{Room, noAreas, collected}
 use Rattle.bench_texts.specs.Texts.{Puts}
 use Rattle.bench_lists.specs.ListLines.{lineRoom}
@@ -17,10 +18,12 @@ use Rattle.bench_answers.specs.Answered.{State, Answered, collecting}
 abbrev pub replyRoom : ℕ
 replyRoom = 4 * lineRoom
 
--- there is room for what a line prints, and for each area that may be collected
-pub record Ready (b : Bench) (out areas : List ℕ) : Type 0 where
+-- there is room for what a line prints, and for each area that may be collected; the record keeps the rules, so that it has lists to
+-- print. `first-ready` (proofs/Replying) says that it is so before the first line.
+pub record Ready (b : Bench) (out areas words : List ℕ) : Type 0 where
   pub printing : replyRoom ≤ length out
   pub collecting : Room (b .counts) areas
+  pub ruled : Ruled (b .allocator) words
 
 abbrev pub firstBench : Bench
 firstBench = record { allocator = freshRecord; counts = noAreas }
@@ -33,11 +36,11 @@ stateOf b areas ws = record { areas = collected (b .counts) areas; allocator = b
 pub record Replies (a : Answered) (out : List ℕ) (r : Reply) (out-after areas words : List ℕ) : Type 0 where
   pub state : stateOf (r .bench) areas words ≡ a .state
   pub text : Puts (a .text) out 0 out-after (r .len)
-  pub ready : Ready (r .bench) out-after areas
+  pub ready : Ready (r .bench) out-after areas words
 
 -- an area is collected, or refused: the words are neither read nor written
 abbrev pub Gathers : Area → Bench → (out areas : List ℕ) → Reply → (out-after areas-after : List ℕ) → Type 0
-Gathers a b out areas r out-after areas-after = (ws : List ℕ) → Replies (collecting a (stateOf b areas ws)) out r out-after areas-after ws
+Gathers a b out areas r out-after areas-after = (ws : List ℕ) → Ruled (b .allocator) ws → Replies (collecting a (stateOf b areas ws)) out r out-after areas-after ws
 
 -- a text alone: all else stays
 pub record Says (said : List ℕ) (b : Bench) (out : List ℕ) (r : Reply) (out-after : List ℕ) : Type 0 where

@@ -5,10 +5,10 @@ ghost use lib.ListN.{length};
 ghost use Rattle.rules.specs.Check.{Ruled};
 ghost use Rattle.model.specs.Calls.{bootCall};
 ghost use Rattle.model.specs.Store.{load};
-ghost use Rattle.bench_areas.specs.Areas.{collected};
+ghost use Rattle.bench_areas.specs.Areas.{Room, collected};
 ghost use Rattle.bench_lines.specs.Commands.{commandOf};
-ghost use Rattle.bench_texts.specs.Texts.{Puts, answerLine};
-ghost use Rattle.bench_answers.specs.Answered.{answered, calling, fourLines, listText};
+ghost use Rattle.bench_texts.specs.Texts.{answerLine};
+ghost use Rattle.bench_answers.specs.Answered.{answered, calling, fourLines};
 ghost use Rattle.bench_answers.specs.Replies.{Ready, Replies, Gathers, Says, replyRoom, firstBench, stateOf, withRecord};
 use bench_areas::AreaCounts;
 use bench_areas::Collecting;
@@ -45,7 +45,7 @@ pub fn begin() -> Bench
 
 // Writes what the line prints to the start of the buffer.
 pub fn answer(b: Bench, line: &[u8], out: &mut [u8], areas: &mut [u64], words: &mut [u64]) -> Reply
-    requires { ⌜ Ready b (now out) (now areas) ⌝ }
+    requires { ⌜ Ready b (now out) (now areas) (now words) ⌝ }
     ensures { λ r. ⌜ Replies (answered (commandOf (now (line .entry))) (stateOf b (now (areas .entry)) (now (words .entry)))) (now (out .entry)) r (now (out .exit)) (now (areas .exit)) (now (words .exit)) ⌝ }
 {
     match bench_lines::read_command(line) {
@@ -75,7 +75,7 @@ pub fn answer(b: Bench, line: &[u8], out: &mut [u8], areas: &mut [u64], words: &
 
 // "Collecting prints nothing".
 fn collect(b: Bench, out: &mut [u8], areas: &mut [u64], start: u64, end: u64, kind: Kind) -> Reply
-    requires { ⌜ Ready b (now out) (now areas) ⌝ }
+    requires { ⌜ (replyRoom ≤ length (now out)) × Room (b .counts) (now areas) ⌝ }
     ensures { λ r. ⌜ Gathers (record { start = start; end = end; kind = kind }) b (now (out .entry)) (now (areas .entry)) r (now (out .exit)) (now (areas .exit)) ⌝ }
 {
     let allocator = b.allocator;
@@ -87,7 +87,7 @@ fn collect(b: Bench, out: &mut [u8], areas: &mut [u64], start: u64, end: u64, ki
 
 // "Collected areas stay after a boot".
 fn boot(b: Bench, out: &mut [u8], areas: &[u64], words: &[u64]) -> Reply
-    requires { ⌜ Ready b (now out) (now areas) ⌝ }
+    requires { ⌜ Ready b (now out) (now areas) (now words) ⌝ }
     ensures { λ r. ⌜ Replies (calling (bootCall (collected (b .counts) (now (areas .entry)))) (stateOf b (now (areas .entry)) (now (words .entry)))) (now (out .entry)) r (now (out .exit)) (now (areas .entry)) (now (words .entry)) ⌝ }
 {
     let used = bench_areas::words_used(b.counts);
@@ -106,25 +106,12 @@ fn tell(b: Bench, out: &mut [u8], called: Called) -> Reply
     Reply { bench, len }
 }
 
-// Only a record that keeps the rules has lists to print; the others are refused as by any call.
 fn list(b: Bench, out: &mut [u8], words: &[u64]) -> Reply
+    requires { ⌜ Ruled (b .allocator) (now words) ⌝ }
     requires { ⌜ replyRoom ≤ length (now out) ⌝ }
-    ensures { λ r. ⌜ Says (listText (b .allocator) (now (words .entry))) b (now (out .entry)) r (now (out .exit)) ⌝ }
+    ensures { λ r. ⌜ Says (fourLines (load (b .allocator) (now (words .entry)))) b (now (out .entry)) r (now (out .exit)) ⌝ }
 {
     let a = b.allocator;
-    let number = rules::check(a, words);
-    if number != 0 {
-        return tell(b, out, rules::refused(a, number));
-    }
-    let len = put_lists(out, a, words);
-    Reply { bench: b, len }
-}
-
-fn put_lists(out: &mut [u8], a: FrameAllocator, words: &[u64]) -> usize
-    requires { ⌜ Ruled a (now words) ⌝ }
-    requires { ⌜ replyRoom ≤ length (now out) ⌝ }
-    ensures { λ r. ⌜ Puts (fourLines (load a (now (words .entry)))) (now (out .entry)) 0 (now (out .exit)) r ⌝ }
-{
     let reserved_free_at = put_list(out, 0, a, words, WhichList::GeneralFree);
     let general_regions_at = put_list(out, reserved_free_at, a, words, WhichList::ReservedFree);
     let reserved_regions_at = put_list(
@@ -134,13 +121,14 @@ fn put_lists(out: &mut [u8], a: FrameAllocator, words: &[u64]) -> usize
         words,
         WhichList::GeneralRegions,
     );
-    put_list(
+    let len = put_list(
         out,
         reserved_regions_at,
         a,
         words,
         WhichList::ReservedRegions,
-    )
+    );
+    Reply { bench: b, len }
 }
 
 fn say(b: Bench, out: &mut [u8], text: &[u8]) -> Reply

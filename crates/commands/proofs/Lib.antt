@@ -1,3 +1,3 @@
 pub mod Decoding
-pub mod Lasting
+pub mod Sound
 pub mod Making

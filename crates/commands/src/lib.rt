@@ -97,7 +97,7 @@ fn are_listed(areas_len: usize, first: u64, count: u64) -> bool
 }
 
 // Makes the call. The number is the test's, made before; where it is 0 the call goes on without a test, and keeps the rules
-// (`test-lasts`, proofs/Lasting).
+// (`test-lasts`, rules/proofs/Lasting).
 pub fn make_call(
     a: FrameAllocator,
     words: &mut [u64],

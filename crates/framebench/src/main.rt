@@ -13,9 +13,13 @@
 ghost use Prim.Native.Nat.{_≤_, _<_};
 ghost use lib.ListN.{length};
 ghost use Rattle.io.specs.Counts.{Counts};
-ghost use Rattle.bench_answers.specs.Replies.{Ready, replyRoom};
-ghost use Rattle.framebench.specs.Reached.{ReadyAt, AnswersLine, AnswersLines};
+ghost use Rattle.bench_lines.specs.Commands.{commandOf};
+ghost use Rattle.bench_answers.specs.Answered.{answered};
+ghost use Rattle.bench_answers.specs.Replies.{Ready, Replies, replyRoom, stateOf};
+ghost use Rattle.framebench.specs.Reached.{ReadyAt, AnswersLines};
 use bench_answers::Bench;
+use bench_answers::Reply;
+use libc::STDIN_FILENO;
 use libc::STDOUT_FILENO;
 
 // The bench, and how many bytes of the next line are held.
@@ -38,7 +42,7 @@ fn main() {
 
 // A proved loop has to end, and nothing says that input does. So the loop counts its turns down, from a number that no run uses up.
 fn run(chunk: &mut [u8], line: &mut [u8], out: &mut [u8], areas: &mut [u64], words: &mut [u64])
-    requires { ⌜ (128 < length (now line)) × (replyRoom ≤ length (now out)) × (384 ≤ length (now areas)) ⌝ }
+    requires { ⌜ (128 < length (now line)) × (replyRoom ≤ length (now out)) × (384 ≤ length (now areas)) × (4096 ≤ length (now words)) ⌝ }
 {
     let mut reached = Reached {
         bench: bench_answers::begin(),
@@ -59,11 +63,11 @@ fn run(chunk: &mut [u8], line: &mut [u8], out: &mut [u8], areas: &mut [u64], wor
     }
 }
 
-// What has come by now, if there is anything: a line is answered before the next one is typed.
+// Waits for input, and takes what has come: a line is answered before the next one is typed. 0 at the end, or where reading fails.
 fn read_some(chunk: &mut [u8]) -> usize
     ensures { λ r. ⌜ Counts r (now (chunk .exit)) ⌝ }
 {
-    let got = libc::read(0, chunk);
+    let got = libc::read(STDIN_FILENO, chunk);
     io::count(got, chunk)
 }
 
@@ -76,8 +80,8 @@ fn answer_lines(
     areas: &mut [u64],
     words: &mut [u64],
 ) -> Reached
-    requires { ⌜ ReadyAt reached (now line) (now out) (now areas) ⌝ }
-    ensures { λ r. ⌜ ReadyAt r (now (line .exit)) (now (out .exit)) (now (areas .exit)) ⌝ }
+    requires { ⌜ ReadyAt reached (now line) (now out) (now areas) (now words) ⌝ }
+    ensures { λ r. ⌜ ReadyAt r (now (line .exit)) (now (out .exit)) (now (areas .exit)) (now (words .exit)) ⌝ }
     ensures { λ r. ⌜ AnswersLines (now (text .entry)) reached (now (line .entry)) (now (areas .entry)) (now (words .entry)) r (now (line .exit)) (now (areas .exit)) (now (words .exit)) ⌝ }
 {
     let mut bench = reached.bench;
@@ -86,7 +90,8 @@ fn answer_lines(
     let mut end = bytes::scan::find(text, 0, text.len(), b'\n');
     while end < text.len() {
         held = bench_lines::hold(line, held, &text[at..end]);
-        bench = answer_line(bench, &line[..held], out, areas, words);
+        let reply = answer_line(bench, &line[..held], out, areas, words);
+        bench = reply.bench;
         held = 0;
         at = end + 1;
         end = bytes::scan::find(text, at, text.len(), b'\n');
@@ -95,13 +100,13 @@ fn answer_lines(
     Reached { bench, held }
 }
 
-// Prints what the line prints, before the next line is looked at.
-fn answer_line(b: Bench, line: &[u8], out: &mut [u8], areas: &mut [u64], words: &mut [u64]) -> Bench
-    requires { ⌜ Ready b (now out) (now areas) ⌝ }
-    ensures { λ r. ⌜ AnswersLine (now (line .entry)) b (now (areas .entry)) (now (words .entry)) r (now (out .exit)) (now (areas .exit)) (now (words .exit)) ⌝ }
+// Answers the line, and writes what it prints before the next one is looked at.
+fn answer_line(b: Bench, line: &[u8], out: &mut [u8], areas: &mut [u64], words: &mut [u64]) -> Reply
+    requires { ⌜ Ready b (now out) (now areas) (now words) ⌝ }
+    ensures { λ r. ⌜ Replies (answered (commandOf (now (line .entry))) (stateOf b (now (areas .entry)) (now (words .entry)))) (now (out .entry)) r (now (out .exit)) (now (areas .exit)) (now (words .exit)) ⌝ }
 {
     let reply = bench_answers::answer(b, line, out, areas, words);
     let len = reply.len;
     io::write_all(STDOUT_FILENO, &out[..len]);
-    reply.bench
+    reply
 }

@@ -13,7 +13,7 @@ use Rattle.commands.specs.Made.{Made}
 use Rattle.commands.specs.declared.RunCall.{RunCall}
 use Rattle.commands.specs.declared.Decoded.{Decoded}
 use Rattle.commands.specs.declared.Decoded.the-variants.{Make, Damaged}
-use Rattle.commands.proofs.Lasting.{test-lasts}
+use Rattle.rules.proofs.Lasting.{test-lasts}
 use Rattle.run.specs.declared.Ran.{Ran}
 use Rattle.run.specs.declared.RunEnd.{RunEnd}
 use Rattle.run.specs.declared.RunEnd.the-variants as ends

@@ -97,7 +97,7 @@ returns c =
     let e = c .before .before .before .before .before .before .before .before in
     let m = e .before .before in
     let s = m .before .before .before .before .before in
-    rw (sym (m .read-command .ensures) ∙ e .start .given .1) (c .before .before .before .before .collect .ensures (s .args .words .now))
+    rw (sym (m .read-command .ensures) ∙ e .start .given .1) (c .before .before .before .before .collect .ensures (s .args .words .now) (s .pre .ruled))
 
 same-length-3 : tie.Need-same-length-3
 same-length-3 c = search needs
@@ -111,7 +111,7 @@ returns-2 c =
     let e = c .before .before .before .before .before .before .before .before in
     let m = e .before .before in
     let s = m .before .before .before .before .before in
-    rw (sym (m .read-command .ensures) ∙ e .start2 .given .1) (c .before .before .before .before .collect2 .ensures (s .args .words .now))
+    rw (sym (m .read-command .ensures) ∙ e .start2 .given .1) (c .before .before .before .before .collect2 .ensures (s .args .words .now) (s .pre .ruled))
 
 same-length-5 : tie.Need-same-length-5
 same-length-5 c = search needs

@@ -38,7 +38,7 @@ returns c =
     let d = y .before .before .before .before in
     let p = d .before .before .before .before in
     let s = p .before .before .before .before .before in
-    taken (omega arith) (s .pre) _ (p .collect .ensures) (d .counts .given .1) (y .say .ensures)
+    taken (omega arith) (s .pre .0) (s .pre .1) _ (p .collect .ensures) (d .counts .given .1) (y .say .ensures)
 
 same-length-3 : tie.Need-same-length-3
 same-length-3 c = search needs
@@ -52,7 +52,7 @@ returns-2 c =
     let e = y .before .before .before in
     let p = e .before .before .before .before in
     let s = p .before .before .before .before .before in
-    full (omega arith) (s .pre) _ (p .collect .ensures) (e .enum-told .given .1) (y .say2 .ensures)
+    full (omega arith) (s .pre .0) (s .pre .1) _ (p .collect .ensures) (e .enum-told .given .1) (y .say2 .ensures)
 
 pub collect-spec : {M : Type 1} → statement M
 collect-spec =

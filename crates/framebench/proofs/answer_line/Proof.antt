@@ -28,9 +28,7 @@ same-length-3 : tie.Need-same-length-3
 same-length-3 c = search needs
 
 returns : tie.Need-returns
-returns c =
-    let a = c .before .before .before .before .before .before .before .before .before .answer .ensures in
-    record { state = a .state; ready = a .ready }
+returns c = search needs
 
 pub answer-line-spec : {M : Type 1} → statement M
 answer-line-spec =

@@ -11,7 +11,7 @@ use Rattle.framebench.proofs.answer_lines.Tie as tie
 abbrev Inv-loop : tie.InvT-loop
 Inv-loop text line₀ out₀ areas₀ words₀ bench₀ held₀ at₀ end₀ line out areas words bench held at end =
     NextEnd text at end × (held ≤ length line) × (length line ≡ length line₀) × (length out ≡ length out₀)
-    × (length areas ≡ length areas₀) × (length words ≡ length words₀) × Ready bench out areas
+    × (length areas ≡ length areas₀) × (length words ≡ length words₀) × Ready bench out areas words
     × Going text (take held₀ line₀) (stateOf bench₀ areas₀ words₀) (take held line) at (stateOf bench areas words)
 
 abbrev μ-loop : tie.MeasureT-loop
@@ -51,7 +51,7 @@ answer-line-requires c κs = c .before .before .before .before .before .before .
 
 add-at : tie.Need-add-at Inv-loop μ-loop
 add-at c =
-    let l = c .before .before .before .before .before .before .before .before .before .before .before .before .before .before .before .before .before in
+    let l = c .before .before .before .before .before .before .before .before .before .before .before .before .before .before .before .before .before .before in
     omega (arith, l .loop .inv .0 .within)
 
 find-requires-2 : tie.Need-find-requires-2 Inv-loop μ-loop
@@ -59,11 +59,11 @@ find-requires-2 c κs = omega arith
 
 loop-less : tie.Need-loop-less Inv-loop μ-loop
 loop-less c =
-    omega (arith, c .find2 .ensures .0, c .find2 .ensures .1, c .before .before .before .before .before .before .before .before .before .before .before .before .before .before .before .before .before .before .loop .inv .0 .within)
+    omega (arith, c .find2 .ensures .0, c .find2 .ensures .1, c .before .before .before .before .before .before .before .before .before .before .before .before .before .before .before .before .before .before .before .loop .inv .0 .within)
 
 loop-again : tie.Need-loop-again Inv-loop μ-loop
 loop-again c =
-    let n = c .before .before .before .before .before .before .before in
+    let n = c .before .before .before .before .before .before .before .before in
     let v = n .before .before .before .before .before .before .before .before .before .before .before .loop .inv in (
       next-end _ (c .find2 .ensures .0) (c .find2 .ensures .1),
       omega arith,

@@ -13,7 +13,7 @@ use Rattle.framebench.proofs.run.Tie as tie
 abbrev Inv-loop : tie.InvT-loop
 Inv-loop chunk₀ line₀ out₀ areas₀ words₀ reached₀ turns₀ chunk line out areas words reached turns =
     (length chunk ≡ length chunk₀) × (length line ≡ length line₀) × (length out ≡ length out₀)
-    × (length areas ≡ length areas₀) × (length words ≡ length words₀) × ReadyAt reached line out areas
+    × (length areas ≡ length areas₀) × (length words ≡ length words₀) × ReadyAt reached line out areas words
 
 abbrev μ-loop : tie.MeasureT-loop
 μ-loop chunk₀ line₀ out₀ areas₀ words₀ reached₀ turns₀ chunk line out areas words reached turns = turns
@@ -24,7 +24,7 @@ begin-requires c κs = tt
 loop-holds : tie.Need-loop-holds Inv-loop μ-loop
 loop-holds c =
     let s = c .before .before .before .before .before .before in
-    let ready = subst⁻¹ (λ (b : Bench). Ready b (s .args .out .now) (s .args .areas .now)) (c .begin .ensures) (first-ready (s .pre .1) (s .pre .2)) in
+    let ready = subst⁻¹ (λ (b : Bench). Ready b (s .args .out .now) (s .args .areas .now) (s .args .words .now)) (c .begin .ensures) (first-ready (s .pre .1) (s .pre .2) (s .pre .3)) in
     (refl, refl, refl, refl, refl, record { ready = ready; held-in = omega arith; wide = s .pre .0 })
 
 read-some-requires : tie.Need-read-some-requires Inv-loop μ-loop

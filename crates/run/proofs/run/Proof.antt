@@ -2,7 +2,7 @@
 use Prim.Native.Nat.{_*_, _-_}
 use mathlib.Core.Path.{sym, _∙_}
 use lib.ListN.{length}
-use Rattle.commands.proofs.Lasting.{decoded-in-list}
+use Rattle.commands.proofs.Sound.{decoded-in-list}
 use Rattle.run.proofs.Turns.{Reached, reached-start, reached-next, stops-done, stops-damaged, stops-full}
 use borrow.Author.Needs.{needs}
 use native.Mathlib.Omega.{arith}
