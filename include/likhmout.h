@@ -17,7 +17,7 @@
  *   - Each flag of a record, `sorted` and `used`, is 0 or 1. Any other byte is no record at all, and what a call does then is open;
  *     likhmout_has_valid_flags tests it. Every other value may be anything, and is refused with 11 where it breaks the list rules.
  *     likhmout_fresh makes a record to begin with; a record of zeros is none, since an unused slot holds [1,0].
- *   - There is stack enough. Measured, not proved: up to 48 KB for a boot or a run, 40 KB for a request, 20 KB for any other call.
+ *   - There is stack enough. Measured, not proved: up to 52 KB for a boot or a run, 40 KB for a request, 20 KB for any other call.
  */
 #ifndef LIKHMOUT_H
 #define LIKHMOUT_H
@@ -70,7 +70,8 @@ typedef enum likhmout_number {
     LIKHMOUT_MISSING = 15,            /* general-only request: from `frame` on, `count` frames are missing */
     LIKHMOUT_MEETS_RESERVED = 16,     /* growth meets a reserved region */
     LIKHMOUT_TWO_CHUNKS_SHORT = 17,   /* two chunks are not enough */
-    LIKHMOUT_LIST_FULL = 18,          /* after the call a list would hold more than 32 (early) or 512 (sorted) entries */
+    LIKHMOUT_LIST_FULL = 18,          /* after the call a list would hold more than 32 (early) or 512 (sorted) entries; early growth also
+                                         when either reserved list has 32 already */
     LIKHMOUT_NOT_HELD = 19            /* a returned frame is free, or the range isn't wholly in regions of one kind */
 } likhmout_number;
 
@@ -179,7 +180,7 @@ LIKHMOUT_ASSERT(run_counts_end, offsetof(likhmout_run_counts, end) == 8);
 /* A record in early form with every slot unused. */
 likhmout_frame_allocator likhmout_fresh(void);
 
-/* The test that every call makes before anything else: 0, 3 or 11. */
+/* The test that a call of the allocator makes before anything else, but for the length of the held list's buffer: 0, 3 or 11. */
 uint64_t likhmout_check(const likhmout_frame_allocator *a, const uint64_t *words, size_t words_len);
 
 /* Whether the flags are 0 or 1, as the library takes them to be. For a record that comes from elsewhere, as from a chip that kept it. */

@@ -39,11 +39,17 @@ pub struct ByteArea {
 // SAFETY: three words; a kind is one.
 unsafe impl Words for ByteArea {}
 
-/// What a run's list of areas has: areas in frames, or in bytes.
-pub trait BootArea: Words {}
+impl From<Area> for [u64; 3] {
+    fn from(area: Area) -> [u64; 3] {
+        [area.start, area.end, area.kind as u64]
+    }
+}
 
-impl BootArea for Area {}
-impl BootArea for ByteArea {}
+impl From<ByteArea> for [u64; 3] {
+    fn from(area: ByteArea) -> [u64; 3] {
+        [area.address, area.bytes, area.kind as u64]
+    }
+}
 
 /// A record with its workspace. A workspace of fewer than [`crate::WORKSPACE_WORDS`] words is refused by every call, with 3.
 pub struct Allocator<W> {
@@ -65,11 +71,11 @@ impl<W: AsRef<[u64]> + AsMut<[u64]>> Allocator<W> {
         self.workspace
     }
 
-    /// The test of the list rules that every call makes first. It fails only where somebody else wrote to the workspace.
+    /// The test that every call makes first: 3 where the workspace is short, 11 where somebody else wrote to it.
     pub fn check(&self) -> Result<(), Refusal> {
         let words = self.workspace.as_ref();
         let number = unsafe { raw::likhmout_check(&self.record, words.as_ptr(), words.len()) };
-        Answer { number, ..Answer::NONE }.accepted().map(|_| ())
+        Answer { number, ..Answer::BLANK }.accepted().map(|_| ())
     }
 
     pub fn init(&mut self, areas: &[Area]) -> Result<(), Refusal> {
@@ -230,17 +236,18 @@ impl<W: AsRef<[u64]> + AsMut<[u64]>> Allocator<W> {
     }
 
     /// Makes the calls one after the other. The rules are tested once, so that each call costs less than by itself. Areas are those
-    /// that boots name, as frames or as bytes; `held` is the held list's buffer.
-    pub fn run<A: BootArea>(
+    /// that boots name, three words each; `held` is the held list's buffer. Each call has one answer in `answers`.
+    pub fn run<'b>(
         &mut self,
         calls: &[Call],
-        areas: &[A],
-        answers: &mut [Answer],
+        areas: &[[u64; 3]],
+        answers: &'b mut [Answer],
         held: &mut [u64],
-    ) -> Ran {
-        let (calls, areas) = (words::of(calls), words::of(areas));
+    ) -> Ran<'b> {
+        let calls = words::of(calls);
+        let areas = areas.as_flattened();
         // SAFETY: each word of an answer may be any.
-        let answers = unsafe { words::of_mut(answers) };
+        let room = unsafe { words::of_mut(answers) };
         let workspace = self.workspace.as_mut();
         let counts = unsafe {
             raw::likhmout_run(
@@ -251,8 +258,8 @@ impl<W: AsRef<[u64]> + AsMut<[u64]>> Allocator<W> {
                 calls.len(),
                 areas.as_ptr(),
                 areas.len(),
-                answers.as_mut_ptr(),
-                answers.len(),
+                room.as_mut_ptr(),
+                room.len(),
                 held.as_mut_ptr(),
                 held.len(),
             )
@@ -262,7 +269,7 @@ impl<W: AsRef<[u64]> + AsMut<[u64]>> Allocator<W> {
             1 => RunEnd::Damaged,
             _ => RunEnd::NoRoom,
         };
-        Ran { made: counts.made, end }
+        Ran { answers: &answers[..counts.made], end }
     }
 }
 

@@ -1,7 +1,8 @@
 //! Ranges of frames.
 
 use crate::raw;
-use crate::words::Words;
+use crate::refusal::Refusal;
+use core::fmt;
 
 /// The frames from `start` to `end`, both included; none where `start` is above `end`.
 #[repr(C)]
@@ -11,12 +12,23 @@ pub struct FrameRange {
     pub end: u64,
 }
 
-// SAFETY: two words.
-unsafe impl Words for FrameRange {}
-
 /// 2: a frame above the top, an address of 2^40 or more, more than 2^40 bytes, or an answer that would end above the top.
 #[derive(Clone, Copy, Debug, PartialEq, Eq)]
 pub struct OutOfBounds;
+
+impl From<OutOfBounds> for Refusal {
+    fn from(_: OutOfBounds) -> Refusal {
+        Refusal::OutOfBounds
+    }
+}
+
+impl fmt::Display for OutOfBounds {
+    fn fmt(&self, f: &mut fmt::Formatter<'_>) -> fmt::Result {
+        Refusal::OutOfBounds.fmt(f)
+    }
+}
+
+impl core::error::Error for OutOfBounds {}
 
 /// What `split_range` yields. An absent part is `FrameRange::EMPTY`.
 #[derive(Clone, Copy, Debug, PartialEq, Eq)]

@@ -41,7 +41,8 @@ pub enum Refusal {
     MeetsReserved,
     /// 17: two chunks are not enough.
     TwoChunksShort,
-    /// 18: a list would hold more than 32 entries in early form, or 512 in sorted form.
+    /// 18: a list would hold more than 32 entries in early form, or 512 in sorted form; early growth also where either reserved list has
+    /// 32 already.
     ListFull,
     /// 19: a returned frame is free, or the range isn't wholly in regions of one kind.
     NotHeld,
@@ -71,7 +72,7 @@ impl Refusal {
         }
     }
 
-    /// The refusal that an answer is, or none. The library has no other number.
+    /// The refusal that an answer is, or none. Its number is the library's, which has no other (docs/CLAIMS.md).
     pub(crate) fn of(answer: &Answer) -> Option<Refusal> {
         Some(match answer.number {
             0 => return None,
@@ -119,7 +120,9 @@ impl fmt::Display for Refusal {
             Refusal::MeetsReserved => "growth meets a reserved region",
             Refusal::TwoChunksShort => "two chunks are not enough",
             Refusal::ListFull => "a list would be too long",
-            Refusal::NotHeld => "a returned frame is free, or of no region",
+            Refusal::NotHeld => {
+                "a returned frame is free, or the range isn't in regions of one kind"
+            }
         };
         write!(f, "{number}: {text}")
     }

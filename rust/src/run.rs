@@ -5,7 +5,8 @@ use crate::range::FrameRange;
 use crate::refusal::Refusal;
 use crate::words::Words;
 
-/// A call of a run: what it is, and two numbers. A boot names its areas by their places in the run's list of areas.
+/// A call of a run: what it is, and two numbers. A boot names its areas by their places in the run's list of areas, in which an area is
+/// three words: `<[u64; 3]>::from(area)`.
 #[repr(C)]
 #[derive(Clone, Copy, Debug, PartialEq, Eq)]
 pub struct Call {
@@ -74,22 +75,42 @@ impl Call {
     }
 }
 
-/// What a call answers: document 01's number, range, frame and count.
+/// What a call answers: document 01's number, range, frame and count. Only the library makes one, so that its number is document 01's.
 #[repr(C)]
 #[derive(Clone, Copy, Debug, PartialEq, Eq)]
 pub struct Answer {
-    pub number: u64,
-    pub range: FrameRange,
-    pub frame: u64,
-    pub count: u64,
+    pub(crate) number: u64,
+    pub(crate) range: FrameRange,
+    pub(crate) frame: u64,
+    pub(crate) count: u64,
 }
 
 // SAFETY: five words.
 unsafe impl Words for Answer {}
 
 impl Answer {
-    /// No call's answer, for a buffer to begin with.
-    pub const NONE: Answer = Answer { number: 0, range: FrameRange::EMPTY, frame: 0, count: 0 };
+    /// What a buffer for answers begins with. It is no call's answer: `run` hands back those of the calls that it made.
+    pub const BLANK: Answer = Answer { number: 0, range: FrameRange::EMPTY, frame: 0, count: 0 };
+
+    /// 0, or the refusal's.
+    pub fn number(self) -> u64 {
+        self.number
+    }
+
+    /// The granted range, or `FrameRange::EMPTY`.
+    pub fn range(self) -> FrameRange {
+        self.range
+    }
+
+    /// The first missing frame of 15, or 0.
+    pub fn frame(self) -> u64 {
+        self.frame
+    }
+
+    /// The free total, the number of held runs, the kind (0 general, 1 reserved), how many frames 15 misses, or 0.
+    pub fn count(self) -> u64 {
+        self.count
+    }
 
     /// The answer of an accepted call, or its refusal.
     pub fn accepted(self) -> Result<Answer, Refusal> {
@@ -108,9 +129,10 @@ pub enum RunEnd {
     NoRoom,
 }
 
-/// How many calls a run made, and why it ended.
+/// The answers of the calls that a run made, and why it ended: it may have made fewer than were asked for.
+#[must_use]
 #[derive(Clone, Copy, Debug, PartialEq, Eq)]
-pub struct Ran {
-    pub made: usize,
+pub struct Ran<'a> {
+    pub answers: &'a [Answer],
     pub end: RunEnd,
 }

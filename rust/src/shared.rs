@@ -13,13 +13,26 @@ pub struct Shared<W> {
 }
 
 /// Granted frames, which are returned when this is dropped.
+#[must_use = "frames that are dropped are returned"]
 pub struct Frames<'a, W: AsRef<[u64]> + AsMut<[u64]>> {
     shared: &'a Shared<W>,
     range: FrameRange,
 }
 
+/// Granted frames that are not returned when this is dropped. There is one of them for each grant, so that frames are returned once.
+#[derive(Debug, PartialEq, Eq)]
+pub struct Kept {
+    range: FrameRange,
+}
+
+impl Kept {
+    pub fn range(&self) -> FrameRange {
+        self.range
+    }
+}
+
 impl<W: AsRef<[u64]> + AsMut<[u64]>> Shared<W> {
-    /// An allocator, booted or not.
+    /// An allocator that was booted.
     pub fn new(allocator: Allocator<W>) -> Self {
         Shared { allocator: RefCell::new(allocator), refused_returns: Cell::new(0) }
     }
@@ -73,8 +86,12 @@ impl<W: AsRef<[u64]> + AsMut<[u64]>> Shared<W> {
         self.allocator.borrow_mut().convert_frame_allocator_to_heap_based()
     }
 
-    /// The frames of the range are free again: for those that were kept.
-    pub fn return_frames(&self, range: FrameRange) -> Result<(), Refusal> {
+    /// The frames are free again. Where that is refused they are handed back, still held.
+    pub fn return_frames(&self, kept: Kept) -> Result<(), (Kept, Refusal)> {
+        self.returned(kept.range).map_err(|refusal| (kept, refusal))
+    }
+
+    fn returned(&self, range: FrameRange) -> Result<(), Refusal> {
         self.allocator.borrow_mut().return_frames(range)
     }
 
@@ -90,7 +107,7 @@ impl<W: AsRef<[u64]> + AsMut<[u64]>> Shared<W> {
         self.allocator.borrow().held_list(buffer)
     }
 
-    /// How many frames objects could not be returned when they were dropped, since a list was full (18). Their frames stay held.
+    /// How many times frames could not be returned when they were dropped, as where a list was full (18). They stay held.
     pub fn refused_returns(&self) -> u64 {
         self.refused_returns.get()
     }
@@ -102,15 +119,15 @@ impl<W: AsRef<[u64]> + AsMut<[u64]>> Frames<'_, W> {
     }
 
     /// The frames stay held, and are not returned by being dropped.
-    pub fn keep(self) -> FrameRange {
+    pub fn keep(self) -> Kept {
         let range = self.range;
         mem::forget(self);
-        range
+        Kept { range }
     }
 
     /// Returns them now. Where that is refused they are handed back, still held.
     pub fn give_back(self) -> Result<(), (Self, Refusal)> {
-        match self.shared.return_frames(self.range) {
+        match self.shared.returned(self.range) {
             Ok(()) => {
                 mem::forget(self);
                 Ok(())
@@ -122,7 +139,7 @@ impl<W: AsRef<[u64]> + AsMut<[u64]>> Frames<'_, W> {
 
 impl<W: AsRef<[u64]> + AsMut<[u64]>> Drop for Frames<'_, W> {
     fn drop(&mut self) {
-        if self.shared.return_frames(self.range).is_err() {
+        if self.shared.returned(self.range).is_err() {
             self.shared.refused_returns.set(self.shared.refused_returns.get() + 1);
         }
     }

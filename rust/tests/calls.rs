@@ -164,7 +164,7 @@ fn questions() {
 
 #[test]
 fn a_run_answers_as_the_calls_do() {
-    let areas = [general(0, 9), reserved(100, 104)];
+    let areas = [general(0, 9), reserved(100, 104)].map(<[u64; 3]>::from);
     let calls = [
         Call::init(0, 2),
         Call::convert_frame_allocator_to_heap_based(),
@@ -176,26 +176,28 @@ fn a_run_answers_as_the_calls_do() {
         Call::kind_of_range(range(105, 107)),
         Call::held_list(),
     ];
-    let mut answers = [Answer::NONE; 9];
+    let mut buffer = [Answer::BLANK; 9];
     let mut held = [0; HELD_WORDS];
     let mut allocator = Allocator::new([0; WORKSPACE_WORDS]);
-    let ran = allocator.run(&calls, &areas, &mut answers, &mut held);
-    assert_eq!(ran, Ran { made: 9, end: RunEnd::Done });
-    assert_eq!(answers[2].accepted().unwrap().range, range(102, 107));
-    assert_eq!(answers[3].accepted().unwrap().range, range(0, 2));
-    assert_eq!(answers[4], Answer { number: 15, range: FrameRange::EMPTY, frame: 10, count: 3 });
-    assert_eq!(answers[4].accepted(), Err(Refusal::Missing { frame: 10, count: 3 }));
-    assert_eq!(answers[6].accepted().unwrap().count, 10);
-    assert_eq!(answers[7].accepted().unwrap().count, 1);
-    assert_eq!(answers[8].accepted().unwrap().count, 0);
+    let Ran { answers, end } = allocator.run(&calls, &areas, &mut buffer, &mut held);
+    assert_eq!((answers.len(), end), (9, RunEnd::Done));
+    assert_eq!(answers[2].accepted().unwrap().range(), range(102, 107));
+    assert_eq!(answers[3].accepted().unwrap().range(), range(0, 2));
+    let missing = answers[4];
+    assert_eq!(
+        (missing.number(), missing.range(), missing.frame(), missing.count()),
+        (15, FrameRange::EMPTY, 10, 3)
+    );
+    assert_eq!(missing.accepted(), Err(Refusal::Missing { frame: 10, count: 3 }));
+    assert_eq!(answers[6].accepted().unwrap().count(), 10);
+    assert_eq!(answers[7].accepted().unwrap().count(), 1);
+    assert_eq!(answers[8].accepted().unwrap().count(), 0);
 
     let damaged = [Call::allocate_frames(1), Call { what: 12, x: 0, y: 0 }];
-    assert_eq!(
-        allocator.run(&damaged, &areas, &mut answers, &mut held),
-        Ran { made: 1, end: RunEnd::Damaged }
-    );
-    let no_room = allocator.run(&calls[2..4], &areas, &mut answers[..1], &mut held);
-    assert_eq!(no_room, Ran { made: 1, end: RunEnd::NoRoom });
+    let ran = allocator.run(&damaged, &[], &mut buffer, &mut held);
+    assert_eq!((ran.answers.len(), ran.end), (1, RunEnd::Damaged));
+    let ran = allocator.run(&calls[2..4], &[], &mut buffer[..1], &mut held);
+    assert_eq!((ran.answers.len(), ran.end), (1, RunEnd::NoRoom));
 }
 
 #[test]
