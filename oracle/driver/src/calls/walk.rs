@@ -36,7 +36,7 @@ pub fn compare() -> bool {
     theirs::empty_lists(false);
 
     let changes = walk.changes.len();
-    println!("small worlds: boots of few areas: {}, others that ascend: {}", boots[0], boots[1]);
+    println!("small worlds: boots of few areas: {}, boots that ascend: {}", boots[0], boots[1]);
     for calls in 3..=CALLS as u32 {
         let lists = (boots[0] + boots[1]) * changes.pow(calls);
         println!("lists of {calls} out of {changes} calls after each of them: {lists}");
