@@ -53,6 +53,7 @@ fn main() -> ExitCode {
     status(
         ranges::compare(random, seed)
             & boots::compare(boots, seed)
+            & calls::compare_small_worlds()
             & calls::compare(calls, seed)
             & bench::compare(scripts, seed),
     )

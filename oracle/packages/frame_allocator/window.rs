@@ -9,6 +9,7 @@
 //! `ManuallyDrop`, so none ever is, but by `window_return`: the range and frame calls are functions of
 //! their operands alone. What the lists hold is forgotten before the next boot.
 
+use super::MemoryRegionType::{Free, Reserved};
 use super::*;
 use alloc::vec::Vec;
 use core::mem::ManuallyDrop;
@@ -62,20 +63,20 @@ impl FreeFrames {
     /// The slots of the four lists, in the same order. Nothing where a list is in sorted form.
     pub fn window_slots() -> Option<[Slots; 4]> {
         Some([
-            slots(&FREE_GENERAL_FRAMES_LIST.lock())?,
-            slots(&FREE_RESERVED_FRAMES_LIST.lock())?,
-            slots(&GENERAL_REGIONS.lock())?,
-            slots(&RESERVED_REGIONS.lock())?,
+            slots(&FREE_GENERAL_FRAMES_LIST.lock(), Free)?,
+            slots(&FREE_RESERVED_FRAMES_LIST.lock(), Reserved)?,
+            slots(&GENERAL_REGIONS.lock(), Free)?,
+            slots(&RESERVED_REGIONS.lock(), Reserved)?,
         ])
     }
 
     /// The entries of the four lists, each in its tree's order. Nothing where a list is in early form.
     pub fn window_tables() -> Option<[Vec<FrameRange>; 4]> {
         Some([
-            table(&FREE_GENERAL_FRAMES_LIST.lock())?,
-            table(&FREE_RESERVED_FRAMES_LIST.lock())?,
-            table(&GENERAL_REGIONS.lock())?,
-            table(&RESERVED_REGIONS.lock())?,
+            table(&FREE_GENERAL_FRAMES_LIST.lock(), Free)?,
+            table(&FREE_RESERVED_FRAMES_LIST.lock(), Reserved)?,
+            table(&GENERAL_REGIONS.lock(), Free)?,
+            table(&RESERVED_REGIONS.lock(), Reserved)?,
         ])
     }
 
@@ -90,16 +91,19 @@ impl FreeFrames {
     /// Inserts these entries into the four lists.
     pub fn window_insert(entries: [Vec<FrameRange>; 4]) {
         let [general, reserved, general_regions, reserved_regions] = entries;
-        insert(&FREE_GENERAL_FRAMES_LIST, general, of);
-        insert(&FREE_RESERVED_FRAMES_LIST, reserved, |frames| {
-            FreeFrames::new(MemoryRegionType::Reserved, frames)
-        });
-        insert(&GENERAL_REGIONS, general_regions, |frames| {
-            PhysicalMemoryRegion::new(frames, MemoryRegionType::Free)
-        });
-        insert(&RESERVED_REGIONS, reserved_regions, |frames| {
-            PhysicalMemoryRegion::new(frames, MemoryRegionType::Reserved)
-        });
+        insert(&FREE_GENERAL_FRAMES_LIST, general, Free);
+        insert(&FREE_RESERVED_FRAMES_LIST, reserved, Reserved);
+        insert(&GENERAL_REGIONS, general_regions, Free);
+        insert(&RESERVED_REGIONS, reserved_regions, Reserved);
+    }
+
+    /// Puts the four lists in early form, with these slots.
+    pub fn window_put_slots(slots: [Slots; 4]) {
+        let [general, reserved, general_regions, reserved_regions] = slots;
+        put_slots(&FREE_GENERAL_FRAMES_LIST, general, Free);
+        put_slots(&FREE_RESERVED_FRAMES_LIST, reserved, Reserved);
+        put_slots(&GENERAL_REGIONS, general_regions, Free);
+        put_slots(&RESERVED_REGIONS, reserved_regions, Reserved);
     }
 
     /// A return: frames of these numbers are made, as the callback of `init` makes them, and dropped.
@@ -124,21 +128,52 @@ impl FreeFrames {
     }
 }
 
-fn slots<T: Ord + Deref<Target = FrameRange>>(list: &StaticArrayRBTree<T>) -> Option<Slots> {
+/// An entry of a list. Each carries a kind beside its frames, and two of the lists are of either kind.
+trait Entry: Ord + Deref<Target = FrameRange> + 'static {
+    fn of(kind: MemoryRegionType, frames: FrameRange) -> Self;
+    fn kind(&self) -> MemoryRegionType;
+}
+
+impl Entry for FreeFrames {
+    fn of(kind: MemoryRegionType, frames: FrameRange) -> FreeFrames {
+        FreeFrames::new(kind, frames)
+    }
+
+    fn kind(&self) -> MemoryRegionType {
+        self.typ
+    }
+}
+
+impl Entry for PhysicalMemoryRegion {
+    fn of(kind: MemoryRegionType, frames: FrameRange) -> PhysicalMemoryRegion {
+        PhysicalMemoryRegion::new(frames, kind)
+    }
+
+    fn kind(&self) -> MemoryRegionType {
+        self.typ
+    }
+}
+
+/// The frames of an entry, which is of its list's kind; so the frames are all that there is to read.
+fn frames_of<T: Entry>(entry: &T, kind: MemoryRegionType) -> FrameRange {
+    assert!(entry.kind() == kind, "an entry of another kind than its list");
+    entry.deref().clone()
+}
+
+fn slots<T: Entry>(list: &StaticArrayRBTree<T>, kind: MemoryRegionType) -> Option<Slots> {
     match &list.0 {
         Inner::Array(entries) => {
-            Some(core::array::from_fn(|i| entries[i].as_ref().map(|entry| entry.deref().clone())))
+            let frames = |entry: &Option<T>| entry.as_ref().map(|entry| frames_of(entry, kind));
+            Some(entries.each_ref().map(frames))
         }
         Inner::RBTree(_) => None,
     }
 }
 
-fn table<T: Ord + Deref<Target = FrameRange>>(
-    list: &StaticArrayRBTree<T>,
-) -> Option<Vec<FrameRange>> {
+fn table<T: Entry>(list: &StaticArrayRBTree<T>, kind: MemoryRegionType) -> Option<Vec<FrameRange>> {
     match &list.0 {
         Inner::Array(_) => None,
-        Inner::RBTree(tree) => Some(tree.iter().map(|node| node.deref().deref().clone()).collect()),
+        Inner::RBTree(tree) => Some(tree.iter().map(|node| frames_of(&**node, kind)).collect()),
     }
 }
 
@@ -155,22 +190,28 @@ fn empty<T: Ord + 'static>(list: &Mutex<StaticArrayRBTree<T>>, sorted: bool) {
     }
 }
 
-fn insert<T: Ord + 'static>(
+fn insert<T: Entry>(
     list: &Mutex<StaticArrayRBTree<T>>,
     entries: Vec<FrameRange>,
-    entry: impl Fn(FrameRange) -> T,
+    kind: MemoryRegionType,
 ) {
     let mut list = list.lock();
     for range in entries {
-        if list.insert(entry(range)).is_err() {
+        if list.insert(T::of(kind, range)).is_err() {
             panic!("a list without room");
         }
     }
 }
 
+/// What the list held is forgotten first: assigning would drop it.
+fn put_slots<T: Entry>(list: &Mutex<StaticArrayRBTree<T>>, slots: Slots, kind: MemoryRegionType) {
+    empty(list, false);
+    list.lock().0 = Inner::Array(slots.map(|slot| slot.map(|frames| T::of(kind, frames))));
+}
+
 /// Free frames of the general kind. `merge` and the splits carry the kind along and never look at it.
 fn of(range: FrameRange) -> FreeFrames {
-    FreeFrames::new(MemoryRegionType::Free, range)
+    FreeFrames::new(Free, range)
 }
 
 fn range_of(frames: &FreeFrames) -> FrameRange {

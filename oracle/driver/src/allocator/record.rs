@@ -123,6 +123,13 @@ impl Stored {
         }
     }
 
+    /// Is made like another with as many words.
+    pub fn put_back(&mut self, other: &Stored) {
+        self.allocator = other.allocator;
+        self.words.copy_from_slice(&other.words);
+        self.buffer.clone_from(&other.buffer);
+    }
+
     /// A buffer of so many words, which held marks, with these runs at its beginning.
     pub fn list(&mut self, words: usize, runs: &[Range]) {
         self.buffer = runs.iter().flat_map(|run| [run.start, run.end]).collect();

@@ -143,6 +143,17 @@ pub fn empty_lists(sorted: bool) {
     FreeFrames::window_empty_lists(sorted);
 }
 
+/// Puts the lists as they are in a state. The trees of a sorted one are filled from the lowest start up.
+pub fn put(state: &State) {
+    let slot = |slot: Option<Range>| slot.map(|range| frame_range(range.start, range.end));
+    match state {
+        State::Early(lists) => {
+            FreeFrames::window_put_slots(lists.map(|slots| slots.map(slot)));
+        }
+        State::Sorted(tables) => put_back(tables),
+    }
+}
+
 /// Puts back lists in sorted form.
 pub fn put_back(tables: &Tables) {
     FreeFrames::window_empty_lists(true);

@@ -1,9 +1,8 @@
 //! Compares lists of calls on both sides: after each call the answer, the record and every word.
 
-use super::counts::Counts;
+use super::counts::{Counts, Scope};
 use super::generate::Plan;
 use super::judge::Judgement;
-use super::small;
 use crate::allocator::call::Call;
 use crate::allocator::record::{Answer, Stored};
 use crate::allocator::state::State;
@@ -15,22 +14,20 @@ use std::mem;
 /// So many differences are printed in full; the others are only counted.
 const SHOWN: u64 = 20;
 
-/// Compares the small worlds, and random lists of so many calls together or a few more. True if nothing
-/// differed and all that can come of a call did.
+/// Compares random lists of so many calls together or a few more. True if nothing differed and all that can
+/// come of a call did.
 pub fn compare(calls: u64, seed: u64) -> bool {
-    let mut comparison = Comparison { counts: Counts::new(), differences: 0 };
-    small::each(|list| {
-        let mut list = list.iter().cloned();
-        comparison.add_list(|_| list.next());
-    });
+    let mut comparison = Comparison { counts: Counts::new(Scope::Lists), differences: 0 };
     let mut random = Random::new(seed);
-    let mut made = 0;
+    let (mut lists, mut made) = (0, 0);
     while made < calls {
         let mut plan = Plan::new(&mut random);
         made += comparison.add_list(|state| plan.next(state, &mut random));
+        lists += 1;
     }
     theirs::empty_lists(false);
 
+    println!("lists of calls: {lists}, calls: {}", comparison.counts.calls());
     comparison.counts.print();
     verdict::passes(comparison.differences, &comparison.counts.faults())
 }
@@ -49,7 +46,6 @@ impl Comparison {
         let mut ours = Stored::new(&state);
         let mut expected = ours.clone();
         let (mut made, mut answers) = (Vec::new(), Vec::new());
-        self.counts.add_list();
         while let Some(call) = next(&state) {
             let judgement = Judgement::of(&call, &state);
             self.counts.add(&call, &state, &judgement);
@@ -97,6 +93,6 @@ impl Comparison {
     }
 }
 
-fn shown(calls: &[Call]) -> String {
+pub fn shown(calls: &[Call]) -> String {
     calls.iter().map(Call::to_string).collect::<Vec<String>>().join("; ")
 }

@@ -7,8 +7,15 @@ use crate::allocator::state::State;
 
 const NUMBERS: usize = 20;
 
+/// Which calls are counted. Those of the small worlds are few, and fill no list.
+#[derive(Clone, Copy, PartialEq, Eq)]
+pub enum Scope {
+    SmallWorlds,
+    Lists,
+}
+
 pub struct Counts {
-    lists: u64,
+    scope: Scope,
     /// By call, number, form and judge.
     numbers: [[[[u64; 2]; 2]; NUMBERS]; Kind::ALL.len()],
     /// By row and form.
@@ -33,17 +40,23 @@ fn possible(kind: Kind, sorted: bool) -> &'static [u64] {
     }
 }
 
+/// Those that it can have in the small worlds: their boots are on fresh records, or on what has entries.
+fn possible_in_small_worlds(kind: Kind, sorted: bool) -> Vec<u64> {
+    match (kind, sorted) {
+        (Kind::Boot, false) => vec![0, 6, 10],
+        (Kind::Boot, true) => vec![10],
+        (Kind::BootBytes | Kind::CountBytes | Kind::AtBytes, _) => Vec::new(),
+        _ => possible(kind, sorted).iter().copied().filter(|number| *number != 18).collect(),
+    }
+}
+
 impl Counts {
-    pub fn new() -> Counts {
+    pub fn new(scope: Scope) -> Counts {
         Counts {
-            lists: 0,
+            scope,
             numbers: [[[[0; 2]; 2]; NUMBERS]; Kind::ALL.len()],
             rows: [[0; 2]; Row::ALL.len()],
         }
-    }
-
-    pub fn add_list(&mut self) {
-        self.lists += 1;
     }
 
     pub fn add(&mut self, call: &Call, before: &State, judgement: &Judgement) {
@@ -61,10 +74,14 @@ impl Counts {
         let mut faults = Vec::new();
         for (sorted, form) in forms {
             for kind in Kind::ALL {
+                let possible = match self.scope {
+                    Scope::SmallWorlds => possible_in_small_worlds(kind, sorted),
+                    Scope::Lists => possible(kind, sorted).to_vec(),
+                };
                 for number in 0..NUMBERS as u64 {
                     let by_form = &self.numbers[kind as usize][number as usize];
                     let occurred = by_form[usize::from(sorted)] != [0; 2];
-                    if occurred != possible(kind, sorted).contains(&number) {
+                    if occurred != possible.contains(&number) {
                         let how = if occurred { "cannot be" } else { "never" };
                         faults.push(format!("{}, {form} form: {how} {number}", kind.name()));
                     }
@@ -72,7 +89,9 @@ impl Counts {
             }
             for row in Row::ALL {
                 let occurred = self.rows[row as usize][usize::from(sorted)] > 0;
-                if occurred != row.can_occur_in(sorted) {
+                let can_occur = row.can_occur_in(sorted)
+                    && (self.scope == Scope::Lists || !row.needs_many_entries());
+                if occurred != can_occur {
                     let how = if occurred { "cannot be" } else { "never" };
                     faults.push(format!("{form} form: {how} \"{}\"", row.label().trim()));
                 }
@@ -81,9 +100,12 @@ impl Counts {
         faults
     }
 
+    /// How many calls were counted.
+    pub fn calls(&self) -> u64 {
+        self.numbers.as_flattened().as_flattened().as_flattened().iter().sum()
+    }
+
     pub fn print(&self) {
-        let all: u64 = self.numbers.as_flattened().as_flattened().as_flattened().iter().sum();
-        println!("lists of calls: {}, calls: {all}", self.lists);
         println!(
             "{:<40}{:>14}{:>14}{:>14}{:>14}",
             "calls", "early", "by doc. 01", "sorted", "by doc. 01"

@@ -1,6 +1,6 @@
 //! A line of the fixed list, and what answers it.
 
-use super::counts::Counts;
+use super::counts::{Counts, Scope};
 use super::judge::Judgement;
 use crate::allocator::call::Call;
 use crate::allocator::record::Answer;
@@ -60,7 +60,7 @@ pub struct Answering {
 impl Answering {
     pub fn new() -> Answering {
         theirs::empty_lists(false);
-        Answering { state: State::empty(false), counts: Counts::new() }
+        Answering { state: State::empty(false), counts: Counts::new(Scope::Lists) }
     }
 
     pub fn answer(&mut self, line: &Line) -> String {

@@ -13,9 +13,12 @@ mod question_rows;
 mod replay;
 mod rows;
 mod small;
+mod states;
+mod walk;
 
 pub use compare::compare;
 pub use departures::{ask_rust, show};
 pub use generate::Plan;
 pub use judge::Judgement;
 pub use replay::write_list;
+pub use walk::compare as compare_small_worlds;

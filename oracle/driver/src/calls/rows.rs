@@ -141,6 +141,21 @@ impl Row {
         self.about().1 != if sorted { Form::Early } else { Form::Sorted }
     }
 
+    /// Whether a list of 32 or 512 entries comes into it.
+    pub fn needs_many_entries(self) -> bool {
+        matches!(
+            self,
+            Row::GrownBesideFull
+                | Row::Full
+                | Row::EighteenGeneral
+                | Row::EighteenReserved
+                | Row::EighteenChunks
+                | Row::EighteenRegions
+                | Row::EighteenGiven
+                | Row::HeldMany
+        )
+    }
+
     fn about(self) -> (&'static str, Form) {
         match self {
             Row::FromGeneral => ("granted from the general list", Form::Both),
