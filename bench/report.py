@@ -1,0 +1,143 @@
+#!/usr/bin/env python3
+"""Makes the page and the plot from the times that the bench program prints.
+
+    report.py page TIMES    the tables, in Markdown
+    report.py plot TIMES    the cost as the lists grow, as SVG
+"""
+import math
+import sys
+
+SIDES = ["single", "run", "rust", "rust_tested"]
+LETTERS = dict(zip(SIDES, "abcd"))
+
+INTRO = """# Speed beside the Rust
+
+Made by `bench/run --write` from [speed.csv](speed.csv). {facts}
+
+Nanoseconds for a call, the least of many batches that take turns; both sides in one process, on the same calls and the same lists. The
+Rust is the Theseus sources as `oracle/` builds them, but without overflow checks.
+
+- **a**: single calls of the static library, each of which tests the list rules (3 and 11)
+- **b**: the same calls through `likhmout_run`, which tests them once
+- **c**: the Rust's calls
+- **d**: a plain Rust pass that tests the same rules (`bench/src/plain.rs`), and the Rust's call
+"""
+
+TABLES = {
+    "requests": """## Requests and returns
+
+A request and the return of what it granted; the time is half of the pair's. Each of the four lists has so many entries. In early form a
+list has 32 slots.
+""",
+    "boot": """## Boots
+
+Size: how many areas. With c, as with d, the Rust's lists are emptied before each boot, and that isn't timed. An entry of one boot through a run has the
+test twice.
+""",
+    "sort": """## Sort
+
+From early to sorted form. Ours writes all 4,096 words.
+""",
+    "held": """## Held list
+
+The Rust has none: c is a plain Rust walk over the same words.
+""",
+    "rules": """## The test of the rules by itself
+
+d is the plain pass alone.
+""",
+}
+
+GROWTH = """## As the lists grow
+
+![time of a call against entries in each list](speed.svg)
+"""
+
+
+def read(path):
+    facts, rows = [], {}
+    for line in open(path, encoding="utf-8"):
+        if line.startswith("# "):
+            facts.append(line[2:].strip())
+            continue
+        table, case, form, size, side, ns = line.strip().split(";")
+        rows.setdefault((table, case, form, int(size)), {})[side] = float(ns)
+    return facts, rows
+
+
+def shown(ns):
+    return "" if ns is None else f"{ns:,.0f}"
+
+
+def ratio(times, above, below):
+    return f"{times[above] / times[below]:.2f}" if above in times and below in times else ""
+
+
+def page(facts, rows):
+    print(INTRO.format(facts="; ".join(facts[:1] + facts[1:]).capitalize() + "."))
+    for table, text in TABLES.items():
+        print(text)
+        print("| call | form | size | a | b | c | d | b/c | a/d |")
+        print("|---|---|---|---|---|---|---|---|---|")
+        for (of, case, form, size), times in rows.items():
+            if of == table:
+                cells = [shown(times.get(side)) for side in SIDES]
+                ends = [ratio(times, "run", "rust"), ratio(times, "single", "rust_tested")]
+                print("| " + " | ".join([case, form, f"{size:,}", *cells, *ends]) + " |")
+        print()
+    print(GROWTH, end="")
+
+
+COLOURS = {"single": "#7a3b9a", "run": "#1f6fb2", "rust": "#c4541a", "rust_tested": "#8a6d1a"}
+WIDTH, HEIGHT, LEFT, TOP, GAP = 380, 300, 60, 50, 60
+
+
+class Panel:
+    """One case: entries to the right, nanoseconds upwards, both by powers."""
+
+    def __init__(self, left, case, rows):
+        self.left, self.case = left, case
+        self.points = {size: times for (table, of, _, size), times in rows.items() if table == "growth" and of == case}
+
+    def x(self, size):
+        return self.left + WIDTH * math.log2(size) / 9
+
+    def y(self, ns):
+        return TOP + HEIGHT * (1 - (math.log10(ns) - 1) / 3)
+
+    def axes(self):
+        yield f'<text x="{self.left}" y="{TOP - 14}" font-weight="bold">{self.case}</text>'
+        for ns in [10, 100, 1000, 10000]:
+            y = self.y(ns)
+            yield f'<line x1="{self.left}" y1="{y:.1f}" x2="{self.left + WIDTH}" y2="{y:.1f}" stroke="#ddd"/>'
+            yield f'<text x="{self.left - 6}" y="{y + 4:.1f}" text-anchor="end">{ns:,}</text>'
+        for size in [1, 4, 16, 64, 256, 511]:
+            yield f'<text x="{self.x(size):.1f}" y="{TOP + HEIGHT + 18}" text-anchor="middle">{size}</text>'
+        yield f'<text x="{self.left + WIDTH / 2}" y="{TOP + HEIGHT + 38}" text-anchor="middle">entries in each list</text>'
+
+    def lines(self):
+        for side in SIDES:
+            sizes = sorted(self.points)
+            path = " ".join(f"{self.x(size):.1f},{self.y(self.points[size][side]):.1f}" for size in sizes)
+            yield f'<polyline points="{path}" fill="none" stroke="{COLOURS[side]}" stroke-width="2"/>'
+            last = self.points[sizes[-1]][side]
+            yield f'<text x="{self.x(sizes[-1]) + 6:.1f}" y="{self.y(last) + 4:.1f}" fill="{COLOURS[side]}">{LETTERS[side]}</text>'
+
+
+def plot(facts, rows):
+    cases = list(dict.fromkeys(case for (table, case, _, _) in rows if table == "growth"))
+    panels = [Panel(LEFT + i * (WIDTH + GAP), case, rows) for i, case in enumerate(cases)]
+    width = LEFT + len(cases) * (WIDTH + GAP)
+    print(f'<svg xmlns="http://www.w3.org/2000/svg" width="{width}" height="{TOP + HEIGHT + 80}" font-family="sans-serif" font-size="12">')
+    print(f'<rect width="{width}" height="{TOP + HEIGHT + 80}" fill="white"/>')
+    print(f'<text x="{LEFT}" y="18">ns a call, with its return: a single, b through run, c the Rust, d plain test and the Rust</text>')
+    for panel in panels:
+        print("\n".join([*panel.axes(), *panel.lines()]))
+    print(f'<text x="{LEFT}" y="{TOP + HEIGHT + 66}" fill="#666">{"; ".join(facts)}</text>')
+    print("</svg>")
+
+
+if __name__ == "__main__":
+    if len(sys.argv) != 3 or sys.argv[1] not in ("page", "plot"):
+        sys.exit(__doc__)
+    {"page": page, "plot": plot}[sys.argv[1]](*read(sys.argv[2]))
