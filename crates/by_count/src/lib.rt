@@ -1,11 +1,18 @@
 // Requests by count on a record that keeps the rules: so many general frames, wherever they are. Document 01, "How a request is met".
 ghost use mathlib.Core.Path.{_≡_};
-ghost use Prim.Native.Nat.{_+_, _≤_, _<_};
+ghost use Prim.Native.Nat.{_+_, _*_, _≤_, _<_};
+ghost use lib.ListN.{length};
 ghost use Rattle.memory_structs.specs.Range.{addressLimit, frameSize};
 ghost use Rattle.model.specs.declared.Place.the-variants.{At};
+ghost use Rattle.model.specs.Lists.{rangeAt};
 ghost use Rattle.model.specs.Requests.{byCount, byBytes, fromPlace, framesOf, largeEnough};
-ghost use Rattle.model.specs.Store.{load};
+ghost use Rattle.model.specs.Store.{load, tableSlots};
 ghost use Rattle.rules.specs.Check.{Ruled, Does};
+ghost use Rattle.lengths.specs.Tables.{tabled, TriedAs};
+ghost use Rattle.taking.specs.Takes.{oneChunk};
+use grants::Chosen;
+use lengths::Lengths;
+use lengths::Tried;
 use lists::WhichList;
 use memory_structs::ADDRESS_LIMIT;
 use memory_structs::FRAME_SIZE;
@@ -65,4 +72,45 @@ pub fn frames_of(num_bytes: u64) -> u64
     ensures { λ r. ⌜ r ≡ framesOf «num_bytes» ⌝ }
 {
     (num_bytes + (FRAME_SIZE - 1)) / FRAME_SIZE
+}
+
+// The request of `count_frames` in sorted form, on the tables alone.
+pub fn count_in_tables(n: Lengths, words: &mut [u64], num_frames: u64) -> Tried
+    requires { ⌜ Ruled (tabled n) (now words) ⌝ }
+    ensures { λ r. ⌜ TriedAs (byCount «num_frames» (load (tabled n) (now (words .entry)))) (now (words .entry)) r (now (words .exit)) ⌝ }
+{
+    if num_frames == 0 {
+        return lengths::not_done(n);
+    }
+    let found = tables::highest_large(&words[0..1024], n.general_free, num_frames);
+    let Place::At(i) = found else {
+        return lengths::not_done(n);
+    };
+    let chosen = pair_at(&words[0..1024], n.general_free, i);
+    let end = chosen.start + (num_frames - 1);
+    taking::take_from_tables(n, words, WhichList::GeneralFree, chosen, chosen.start, end)
+}
+
+// The same of `count_bytes`.
+pub fn count_bytes_in_tables(n: Lengths, words: &mut [u64], num_bytes: u64) -> Tried
+    requires { ⌜ Ruled (tabled n) (now words) ⌝ }
+    ensures { λ r. ⌜ TriedAs (byBytes «num_bytes» (load (tabled n) (now (words .entry)))) (now (words .entry)) r (now (words .exit)) ⌝ }
+{
+    if ADDRESS_LIMIT < num_bytes {
+        return lengths::not_done(n);
+    }
+    count_in_tables(n, words, frames_of(num_bytes))
+}
+
+// The pair at i as one chosen chunk.
+fn pair_at(t: &[u64], len: usize, i: usize) -> Chosen
+    requires { ⌜ (i < len) × (2 * len ≤ length (now t)) ⌝ }
+    ensures { λ r. ⌜ r ≡ oneChunk i (rangeAt (tableSlots len (now (t .entry))) i) ⌝ }
+{
+    Chosen {
+        first: i,
+        many: 1,
+        start: t[2 * i],
+        end: t[2 * i + 1],
+    }
 }

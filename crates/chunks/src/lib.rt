@@ -51,7 +51,7 @@ pub fn find_specific_chunk(l: OneList, t: &[u64], start: u64, end: u64) -> Searc
 }
 
 // The search in a table: by halving for the one chunk that can hold the first frame.
-fn find_in_table(t: &[u64], len: usize, start: u64, end: u64) -> Search
+pub fn find_in_table(t: &[u64], len: usize, start: u64, end: u64) -> Search
     requires { ⌜ 2 * len ≤ length (now t) ⌝ }
     requires { ⌜ rising 0 (tableSlots len (now t)) ≡ true ⌝ }
     ensures { λ r. ⌜ foundOf r ≡ model.find true (range start end) (tableSlots len (now (t .entry))) ⌝ }

@@ -1,3 +1,4 @@
 pub mod Decoding
 pub mod Sound
 pub mod Making
+pub mod Trying

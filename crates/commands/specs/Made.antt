@@ -1,7 +1,7 @@
 -- One call, made: its answer, the record, every word, and the held list's buffer. The words in quotes are document 01's.
 use Prim.Native.Nat.{ℕ}
 use mathlib.Core.Path.{_≡_}
-use mathlib.Core.Bool.{false}
+use mathlib.Core.Bool.{Bool, true, false}
 use mathlib.Core.List.{List}
 use lib.ListN.{length}
 use Rattle.memory_structs.specs.Choice.{if_then_else_}
@@ -9,6 +9,11 @@ use Rattle.model.specs.Calls.{Call, heldCall, shortBuffer, Gives, BufferAfter}
 use Rattle.model.specs.declared.Called.{Called}
 use Rattle.model.specs.declared.FrameAllocator.{FrameAllocator}
 use Rattle.rules.specs.Check.{checked}
+use Rattle.lengths.specs.declared.Lengths.{Lengths}
+use Rattle.lengths.specs.declared.Tried.{Tried}
+use Rattle.lengths.specs.Tables.{tabled}
+use Rattle.commands.specs.declared.RunCall.{RunCall}
+use Rattle.commands.specs.Commands.{callIn}
 
 -- "Order: 3, 11": a short buffer before the number of the test
 unfoldable pub numberFor : Call → ℕ → ℕ
@@ -27,3 +32,10 @@ pub record Left (c : Call) (a : FrameAllocator) (ws before after : List ℕ) : T
 pub record Made (c : Call) (a : FrameAllocator) (ws before : List ℕ) (called : Called) (wordsAfter after : List ℕ) : Type 0 where
   pub gives : Gives c a ws called wordsAfter
   pub buffer : Left c a ws before after
+
+-- a call that was tried on the tables alone, in sorted form: where it was done it is made, and its buffer is kept; else no word has changed
+pub record TriedMade (number : ℕ) (sorted : Bool) (command : RunCall) (n : Lengths) (ws : List ℕ) (t : Tried) (after : List ℕ) : Type 0 where
+  pub accepted : t .done ≡ true → number ≡ 0
+  pub form : t .done ≡ true → sorted ≡ true
+  pub made : t .done ≡ true → (areas before : List ℕ) → Made (callIn areas (length before) command) (tabled n) ws before (record { answer = t .answer; allocator = tabled (t .lengths) }) after before
+  pub leaves : t .done ≡ false → after ≡ ws

@@ -9,7 +9,10 @@ ghost use Rattle.rules.specs.Check.{checked, answeredWith};
 ghost use Rattle.areas.specs.Areas.{areasIn, byteAreasIn};
 ghost use Rattle.commands.specs.Commands as spec;
 ghost use Rattle.commands.specs.Commands.{InList, areasAt, callIn};
-ghost use Rattle.commands.specs.Made.{numberFor, Goes, Made};
+ghost use Rattle.lengths.specs.Tables.{tabled};
+ghost use Rattle.commands.specs.Made.{numberFor, Goes, Made, TriedMade};
+use lengths::Lengths;
+use lengths::Tried;
 use memory_structs::FrameRange;
 use model::Answer;
 use model::Called;
@@ -185,5 +188,23 @@ fn answered(a: FrameAllocator, answer: Answer) -> Called
     Called {
         answer,
         allocator: a,
+    }
+}
+
+// Tries the call on the tables alone: a request or a return, in sorted form, where the test's number is 0.
+pub fn try_call(number: u64, sorted: bool, n: Lengths, words: &mut [u64], command: RunCall) -> Tried
+    requires { ⌜ (number ≡ 0 → sorted ≡ true → checked (tabled n) (now words) ≡ 0) ⌝ }
+    ensures { λ r. ⌜ TriedMade number sorted command n (now (words .entry)) r (now (words .exit)) ⌝ }
+{
+    if number != 0 {
+        return lengths::not_done(n);
+    }
+    if !sorted {
+        return lengths::not_done(n);
+    }
+    match command {
+        RunCall::Allocate(request) => requests::meet_in_tables(n, words, request),
+        RunCall::Return(range) => returns::give_back_to_tables(n, words, range),
+        _ => lengths::not_done(n),
     }
 }

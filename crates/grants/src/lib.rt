@@ -78,7 +78,7 @@ fn allocate_from_slots(l: EarlyList, chosen: Chosen, start: u64, end: u64) -> Ea
 }
 
 // The leftovers take the place of the chosen pairs, and the pairs above move once at most. The answer is the length after that.
-fn allocate_from_table(t: &mut [u64], len: usize, chosen: Chosen, start: u64, end: u64) -> usize
+pub fn allocate_from_table(t: &mut [u64], len: usize, chosen: Chosen, start: u64, end: u64) -> usize
     requires { ⌜ IsTable len (now t) ⌝ }
     requires { ⌜ tidy true (tableSlots len (now t)) ≡ true ⌝ }
     requires { ⌜ Chooses true (tableSlots len (now t)) chosen start end ⌝ }

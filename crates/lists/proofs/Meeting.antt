@@ -63,12 +63,12 @@ highest-meets r h m (used c ∷ s) a = go (lastWhere (λ x. leb (x .start) (r .e
         ∙ either r c (rangeAt s j .end) (meets r c) refl (omega (arith, ends-above (c .end + 1) s j (a .2) (last-bound (λ x. leb (x .start) (r .end)) s j e)))
 
 -- the two forms
-pub met-sorted : (r : FrameRange) (l : OneList) (ws : List ℕ) → r .start ≤ r .end → l .sorted ≡ true → tidy (l .sorted) (slotsIn l ws) ≡ true
-    → (q : Place) → q ≡ lastWhere (λ c. leb (c .start) (r .end)) (tableSlots (l .len) ws) → reaches (r .start) (tableSlots (l .len) ws) q ≡ anyOf (meets r) (entries (slotsIn l ws))
-met-sorted r l ws h e t q found =
-    ap (reaches (r .start) (tableSlots (l .len) ws)) found
-    ∙ sym (highest-meets r h 0 (tableSlots (l .len) ws) (tidy-spaced (tableSlots (l .len) ws) (sym (at-sorted tidy l ws e) ∙ t)))
-    ∙ sym (at-sorted (λ b s. anyOf (meets r) (entries s)) l ws e)
+pub met-table : (r : FrameRange) (n : ℕ) (ws : List ℕ) → r .start ≤ r .end → tidy true (tableSlots n ws) ≡ true
+    → (q : Place) → q ≡ lastWhere (λ c. leb (c .start) (r .end)) (tableSlots n ws) → reaches (r .start) (tableSlots n ws) q ≡ anyOf (meets r) (entries (tableSlots n ws))
+met-table r n ws h t q found = ap (reaches (r .start) (tableSlots n ws)) found ∙ sym (highest-meets r h 0 (tableSlots n ws) (tidy-spaced (tableSlots n ws) t))
+
+pub met-sorted : (r : FrameRange) (l : OneList) (ws : List ℕ) → l .sorted ≡ true → anyOf (meets r) (entries (tableSlots (l .len) ws)) ≡ anyOf (meets r) (entries (slotsIn l ws))
+met-sorted r l ws e = sym (at-sorted (λ b s. anyOf (meets r) (entries s)) l ws e)
 
 pub met-early : (r : FrameRange) (l : OneList) (ws : List ℕ) → l .sorted ≡ false → anyOf (meets r) (entries (slotsOf (l .early))) ≡ anyOf (meets r) (entries (slotsIn l ws))
 met-early r l ws e = sym (at-early (λ b s. anyOf (meets r) (entries s)) l ws e)

@@ -1,13 +1,14 @@
 // One of the four lists, in whichever form it has: 32 slots in the record, or a table in its own part of the lent workspace.
 ghost use mathlib.Core.Path.{_≡_};
 ghost use mathlib.Core.Bool.{true, false};
-ghost use Prim.Native.Nat.{_+_, _≤_, _<_};
+ghost use Prim.Native.Nat.{_+_, _*_, _≤_, _<_};
 ghost use lib.ListN.{length};
 ghost use Rattle.memory_structs.specs.Range as range;
 ghost use Rattle.model.specs.Lists as model;
 ghost use Rattle.model.specs.Lists.{entries, rangeAt, anyOf, bound, inUnion};
 ghost use Rattle.model.specs.Rules.{slotted, tidy};
 ghost use Rattle.model.specs.Requests.{largeEnough};
+ghost use Rattle.model.specs.Store.{tableSlots};
 ghost use Rattle.lists.specs.One.{IsList, slotsIn, Stored};
 
 mod record;
@@ -76,14 +77,23 @@ pub fn meets(l: OneList, t: &[u64], start: u64, end: u64) -> bool
         return false;
     }
     if l.sorted {
-        // Only the highest entry that starts at or below the end can meet it.
-        return match tables::highest_at_or_below(t, l.len, end) {
-            Place::At(i) => start <= t[2 * i + 1],
-            Place::Nowhere => false,
-        };
+        return table_meets(t, l.len, start, end);
     }
     let e = l.early;
     early::meets_from(&e.starts, &e.ends, &e.used, 0, start, end)
+}
+
+// The same of a table and a range with frames: only the highest entry that starts at or below the end can meet it.
+pub fn table_meets(t: &[u64], len: usize, start: u64, end: u64) -> bool
+    requires { ⌜ 2 * len ≤ length (now t) ⌝ }
+    requires { ⌜ tidy true (tableSlots len (now t)) ≡ true ⌝ }
+    requires { ⌜ start ≤ end ⌝ }
+    ensures { λ r. ⌜ r ≡ anyOf (range.meets (range.range start end)) (entries (tableSlots len (now (t .entry)))) ⌝ }
+{
+    match tables::highest_at_or_below(t, len, end) {
+        Place::At(i) => start <= t[2 * i + 1],
+        Place::Nowhere => false,
+    }
 }
 
 // Whether every frame of the range is in an entry; entries may touch.

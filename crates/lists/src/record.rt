@@ -82,18 +82,32 @@ pub fn part_of(which: WhichList) -> usize
 }
 
 // The record with this list in its place; the list has the record's form.
-pub fn with_list(a: FrameAllocator, which: WhichList, l: OneList) -> FrameAllocator
+pub fn with_list(mut a: FrameAllocator, which: WhichList, l: OneList) -> FrameAllocator
     ensures { λ r. ⌜ r ≡ withList which a l ⌝ }
 {
-    let general_free = list_of(a, WhichList::GeneralFree);
-    let reserved_free = list_of(a, WhichList::ReservedFree);
-    let general_regions = list_of(a, WhichList::GeneralRegions);
-    let reserved_regions = list_of(a, WhichList::ReservedRegions);
+    let slots = l.early;
     match which {
-        WhichList::GeneralFree => record_of(l, reserved_free, general_regions, reserved_regions),
-        WhichList::ReservedFree => record_of(general_free, l, general_regions, reserved_regions),
-        WhichList::GeneralRegions => record_of(general_free, reserved_free, l, reserved_regions),
-        WhichList::ReservedRegions => record_of(general_free, reserved_free, general_regions, l),
+        WhichList::GeneralFree => {
+            a.sorted = l.sorted;
+            a.general_free = slots;
+            a.general_free_len = l.len;
+            a
+        }
+        WhichList::ReservedFree => {
+            a.reserved_free = slots;
+            a.reserved_free_len = l.len;
+            a
+        }
+        WhichList::GeneralRegions => {
+            a.general_regions = slots;
+            a.general_regions_len = l.len;
+            a
+        }
+        WhichList::ReservedRegions => {
+            a.reserved_regions = slots;
+            a.reserved_regions_len = l.len;
+            a
+        }
     }
 }
 

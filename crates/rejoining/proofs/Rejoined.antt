@@ -6,7 +6,7 @@ use mathlib.Core.Bool.{Bool, true, false, not}
 use mathlib.Core.List.{List}
 use lib.ListN.{length}
 use lib.Dec.{ltb, eqb}
-use borrow.Author.Tests.{le-ltb}
+use borrow.Author.Tests.{lt-ltb, le-ltb}
 use Rattle.memory_structs.specs.Range.{range}
 use Rattle.memory_structs.specs.declared.range.FrameRange.{FrameRange}
 use Rattle.model.specs.Lists.{Slot, entries, firstWhere, rangeAt, insert, insertSorted, replaceAt, bound}
@@ -17,12 +17,15 @@ use Rattle.model.proofs.Cover.{Hit, first-hit, sorted-count}
 use Rattle.model.proofs.Growth.{used-below}
 use Rattle.model.proofs.Stored.{table-length, table-used}
 use Rattle.model.proofs.Whole.{used-count}
+use Rattle.tables.specs.Words.{IsTable}
 use Rattle.tables.proofs.Search.{leb-same}
+use Rattle.tables.proofs.Table.{stored}
 use Rattle.lists.specs.declared.OneList.{OneList}
 use Rattle.lists.specs.One.{IsList, slotsIn, Stored}
-use Rattle.lists.proofs.One.{as-table, at-sorted, length-replaced, sorted-after}
+use Rattle.lists.proofs.One.{at-sorted, length-replaced, sorted-after}
 use Rattle.lists.proofs.Again.{list-stored, replaced-used}
-use Rattle.rejoining.specs.Rejoins.{afterReturn, GoesBack}
+use Rattle.rejoining.specs.declared.PutBack.{PutBack}
+use Rattle.rejoining.specs.Rejoins.{afterReturn, GoesBack, TableGoesBack}
 
 -- a pair that a search answers is one of the table's
 pub found-pair : (p : FrameRange → Bool) (n : ℕ) (ws : List ℕ) (i : ℕ) → At i ≡ firstWhere p (tableSlots n ws) → i < n
@@ -67,13 +70,44 @@ pub stays : (r : FrameRange) (l : OneList) (ws : List ℕ) → IsList l ws → n
 unfolding afterReturn
 stays r l ws t e = record { placed = sym (ap not e); stored = rw e (list-stored l ws t) }
 
--- a chunk that is rewritten where it stands: no entry more, so that there is a place
-pub joined : (r : FrameRange) (l : OneList) (ws : List ℕ) → IsList l ws → l .sorted ≡ true → (i : ℕ) (x : FrameRange) → given true r (tableSlots (l .len) ws) ≡ replaceAt i x (tableSlots (l .len) ws)
-    → (y : FrameRange) → y ≡ x → (after : List ℕ) → after ≡ tableWords (replaceAt i y (tableSlots (l .len) ws)) → GoesBack (l .sorted) r (slotsIn l ws) ws (record { placed = true; list = l }) after
-unfolding noPlace given bound
-joined r l ws t e i x same y p after w =
-    let s = tableSlots (l .len) ws in
-    let n : length (replaceAt i x s) ≡ l .len = length-replaced i x s ∙ table-length (l .len) ws in
-    let few : length (entries (given true r s)) ≤ 512 = omega (arith, as-table l ws t e .fits, n, used-count (replaced-used i x (table-used (l .len) ws)), ap (λ (z : List Slot). length (entries z)) same) in
-    goes (at-sorted (λ b z. noPlace b r z) l ws e ∙ le-ltb 512 (length (entries (given true r s))) few) refl
-    (sorted-after (λ b z. given b r z) l ws t e (l .len) after (sym (ap length same ∙ n)) (w ∙ ap (λ (z : FrameRange). tableWords (replaceAt i z s)) p ∙ ap tableWords (sym same)))
+-- a range that no pair is joined to has a place just where the table has one
+module _ (r : FrameRange) (n : ℕ) (ws : List ℕ) (e : given true r (tableSlots n ws) ≡ insert true r (tableSlots n ws)) where
+  pairs : length (entries (tableSlots n ws)) ≡ n
+  pairs = sym (used-count (table-used n ws)) ∙ table-length n ws
+
+  pub table-full : 512 ≤ n → noPlace true r (tableSlots n ws) ≡ true
+  unfolding bound
+  table-full h = one-more true r (tableSlots n ws) e ∙ lt-ltb 512 (length (entries (tableSlots n ws)) + 1) (omega (arith, pairs))
+
+  pub table-room : n < 512 → noPlace true r (tableSlots n ws) ≡ false
+  unfolding bound
+  table-room h = one-more true r (tableSlots n ws) e ∙ le-ltb 512 (length (entries (tableSlots n ws)) + 1) (omega (arith, pairs))
+
+-- a table: with a place, without one
+module _ (r : FrameRange) (n : ℕ) (ws : List ℕ) (t : IsTable n ws) where
+  pub table-goes : noPlace true r (tableSlots n ws) ≡ false → (x : List Slot) → given true r (tableSlots n ws) ≡ x → (m : ℕ) (after : List ℕ) → m ≡ length x → after ≡ tableWords x
+      → TableGoesBack r (tableSlots n ws) (record { placed = true; len = m }) after
+  unfolding afterReturn
+  table-goes e x same m after c w = record { placed = sym (ap not e); counted = rw (e, same) c; written = rw (e, same) w }
+
+  pub table-stays : noPlace true r (tableSlots n ws) ≡ true → TableGoesBack r (tableSlots n ws) (record { placed = false; len = n }) ws
+  unfolding afterReturn
+  table-stays e = record { placed = sym (ap not e); counted = rw e (sym (table-length n ws)); written = rw e (sym (stored t)) }
+
+  -- a pair that is rewritten where it stands: no entry more, so that there is a place
+  pub joined : (i : ℕ) (x : FrameRange) → given true r (tableSlots n ws) ≡ replaceAt i x (tableSlots n ws)
+      → (y : FrameRange) → y ≡ x → (after : List ℕ) → after ≡ tableWords (replaceAt i y (tableSlots n ws)) → TableGoesBack r (tableSlots n ws) (record { placed = true; len = n }) after
+  unfolding noPlace given bound rejoin
+  joined i x same y p after w =
+      let s = tableSlots n ws in
+      let m : length (replaceAt i x s) ≡ n = length-replaced i x s ∙ table-length n ws in
+      let few : length (entries (given true r s)) ≤ 512 = omega (arith, t .fits, m, used-count (replaced-used i x (table-used n ws)), ap (λ (z : List Slot). length (entries z)) same) in
+      table-goes (le-ltb 512 (length (entries (given true r s))) few) (replaceAt i x s) same n after (sym m) (w ∙ ap (λ (z : FrameRange). tableWords (replaceAt i z s)) p)
+
+-- what a table leaves, of the list that it is
+pub as-list : (r : FrameRange) (l : OneList) (ws : List ℕ) → IsList l ws → l .sorted ≡ true → (g : PutBack) (after : List ℕ) → TableGoesBack r (tableSlots (l .len) ws) g after
+    → GoesBack (l .sorted) r (slotsIn l ws) ws (record { placed = g .placed; list = record { sorted = l .sorted; early = l .early; len = g .len } }) after
+as-list r l ws t e g after b = record {
+  placed = b .placed ∙ sym (at-sorted (λ b z. not (noPlace b r z)) l ws e);
+  stored = sorted-after (λ b z. afterReturn b r z) l ws t e (g .len) after (b .counted) (b .written);
+}

@@ -1,9 +1,14 @@
 // Requests: by count and by address, in frames and in bytes, from all frames or from general ones only. Document 01, "How a request is
 // met" (000, `allocate_frames_deferred` and its callers).
+ghost use mathlib.Core.Path.{_≡_};
+ghost use mathlib.Core.Bool.{true};
 ghost use Rattle.model.specs.Calls.{countCall, countBytesCall, addressCall, addressBytesCall, generalCall, answer, Gives};
 ghost use Rattle.model.specs.Store.{load};
 ghost use Rattle.rules.specs.Check.{Ruled, Does};
+ghost use Rattle.lengths.specs.Tables.{tabled, TriedAs};
 ghost use Rattle.requests.specs.Asked.{callOf};
+use lengths::Lengths;
+use lengths::Tried;
 use model::Called;
 use model::FrameAllocator;
 
@@ -77,6 +82,22 @@ pub fn allocate(a: FrameAllocator, words: &mut [u64], request: Request) -> Calle
     if number != 0 {
         return rules::refused(a, number);
     }
+    if a.sorted {
+        return meet_sorted(a, words, request);
+    }
+    meet_request(a, words, request)
+}
+
+// In sorted form most requests need no more than the tables.
+fn meet_sorted(a: FrameAllocator, words: &mut [u64], request: Request) -> Called
+    requires { ⌜ Ruled a (now words) ⌝ }
+    requires { ⌜ a .sorted ≡ true ⌝ }
+    ensures { λ r. ⌜ Does (answer (callOf request) (load a (now (words .entry)))) (now (words .entry)) r (now (words .exit)) ⌝ }
+{
+    let tried = meet_in_tables(lengths::lengths_of(a), words, request);
+    if tried.done {
+        return lengths::called(a, tried);
+    }
     meet_request(a, words, request)
 }
 
@@ -102,6 +123,26 @@ pub fn meet_request(a: FrameAllocator, words: &mut [u64], request: Request) -> C
         ),
         Request::GeneralFramesAt { frame, num_frames } => {
             by_address::general_frames_at(a, words, frame, num_frames)
+        }
+    }
+}
+
+// The request of `meet_request` in sorted form, on the tables alone: done where a list has frames for it.
+pub fn meet_in_tables(n: Lengths, words: &mut [u64], request: Request) -> Tried
+    requires { ⌜ Ruled (tabled n) (now words) ⌝ }
+    ensures { λ r. ⌜ TriedAs (answer (callOf request) (load (tabled n) (now (words .entry)))) (now (words .entry)) r (now (words .exit)) ⌝ }
+{
+    match request {
+        Request::Frames { num_frames } => by_count::count_in_tables(n, words, num_frames),
+        Request::Bytes { num_bytes } => by_count::count_bytes_in_tables(n, words, num_bytes),
+        Request::FramesAt { frame, num_frames } => {
+            by_address::frames_in_tables(n, words, frame, num_frames)
+        }
+        Request::BytesAt { address, num_bytes } => {
+            by_address::bytes_in_tables(n, words, address, num_bytes)
+        }
+        Request::GeneralFramesAt { frame, num_frames } => {
+            by_address::general_frames_in_tables(n, words, frame, num_frames)
         }
     }
 }

@@ -76,18 +76,24 @@ same-slots ReservedRegions l = refl
 
 -- what the list stores stands in the record and the words, with a place and without one
 module _ (w : WhichList) (r : FrameRange) (a : FrameAllocator) (ws : List ℕ) {b : FrameAllocator} {after : List ℕ}
-    (st : AllStored (withSlots w (load a ws) (afterReturn (a .sorted) r (slotsAt w (load a ws)))) ws b after) (called : Called) where
-  pub no-place : Ruled a ws → noPlace (a .sorted) r (slotsAt w (load a ws)) ≡ true → called ≡ refusedWith 18 a → Does (givenTo w r (load a ws)) ws called after
+    (st : AllStored (withSlots w (load a ws) (afterReturn (a .sorted) r (slotsAt w (load a ws)))) ws b after) where
+  pub no-change : Ruled a ws → noPlace (a .sorted) r (slotsAt w (load a ws)) ≡ true → after ≡ ws
+  unfolding afterReturn load
+  no-change u full =
+      st .words ∙ ap (λ (x : List Slot). wordsOf (withSlots w (load a ws) x) ws) (rw full) ∙ ap (λ (l : Lists). wordsOf l ws) (same-slots w (load a ws))
+      ∙ sym (ruled-stands a ws u .words)
+
+  pub no-place : (called : Called) → Ruled a ws → noPlace (a .sorted) r (slotsAt w (load a ws)) ≡ true → called ≡ refusedWith 18 a → Does (givenTo w r (load a ws)) ws called after
   unfolding givenTo afterReturn load refused
-  no-place u full e = rw full (record {
+  no-place called u full e = rw full (record {
     answers = ap (λ (x : Called). x .answer) e;
     records = ap (λ (x : Called). x .allocator) e ∙ ruled-stands a ws u .records;
     words = st .words ∙ ap (λ (x : List Slot). wordsOf (withSlots w (load a ws) x) ws) (rw full) ∙ ap (λ (l : Lists). wordsOf l ws) (same-slots w (load a ws));
   })
 
-  pub a-place : noPlace (a .sorted) r (slotsAt w (load a ws)) ≡ false → called ≡ acceptedWith 0 b → Does (givenTo w r (load a ws)) ws called after
+  pub a-place : (called : Called) → noPlace (a .sorted) r (slotsAt w (load a ws)) ≡ false → called ≡ acceptedWith 0 b → Does (givenTo w r (load a ws)) ws called after
   unfolding givenTo afterReturn load counted
-  a-place room e = rw room (record {
+  a-place called room e = rw room (record {
     answers = ap (λ (x : Called). x .answer) e;
     records = ap (λ (x : Called). x .allocator) e ∙ st .allocator ∙ ap (λ (x : List Slot). recordOf (withSlots w (load a ws) x)) (rw room);
     words = st .words ∙ ap (λ (x : List Slot). wordsOf (withSlots w (load a ws) x) ws) (rw room);

@@ -7,10 +7,14 @@ ghost use Rattle.model.specs.Store.{load};
 ghost use Rattle.model.specs.Calls.{returnCall, Gives};
 ghost use Rattle.rules.specs.Check.{Ruled, Does};
 ghost use Rattle.returns.specs.Given.{anyFree, givenTo};
+
+mod sorted;
+
 use lists::WhichList;
 use memory_structs::FrameRange;
 use model::Called;
 use model::FrameAllocator;
+pub use sorted::give_back_to_tables;
 
 // The frames of the range go back to the free list of their kind.
 pub fn return_frames(a: FrameAllocator, words: &mut [u64], range: FrameRange) -> Called
@@ -19,6 +23,9 @@ pub fn return_frames(a: FrameAllocator, words: &mut [u64], range: FrameRange) ->
     let number = rules::check(a, words);
     if number != 0 {
         return rules::refused(a, number);
+    }
+    if a.sorted {
+        return sorted::give_back_sorted(a, words, range);
     }
     give_back(a, words, range)
 }

@@ -6,6 +6,7 @@ ghost use lib.ListN.{length};
 ghost use Rattle.model.specs.Rules.{tidy};
 ghost use Rattle.model.specs.Store.{slotsOf, load};
 ghost use Rattle.model.specs.Requests.{withoutFrames};
+ghost use Rattle.early.specs.Slots.{earlyListOf};
 ghost use Rattle.rules.specs.Check.{checked, refusedWith, acceptedWith, keepsIn, eachKeeps, agree, listsAgree};
 use memory_structs::FrameRange;
 use model::Answer;
@@ -66,34 +67,68 @@ fn each_keeps(a: FrameAllocator, words: &[u64]) -> bool
     ensures { λ r. ⌜ r ≡ eachKeeps a (now (words .entry)) ⌝ }
 {
     let t = &words[0..1024];
-    if !keeps_rules(a.sorted, a.general_free, a.general_free_len, t) {
+    let l = a.general_free;
+    if !keeps_rules(a.sorted, &l.starts, &l.ends, &l.used, a.general_free_len, t) {
         return false;
     }
     let t = &words[1024..2048];
-    if !keeps_rules(a.sorted, a.reserved_free, a.reserved_free_len, t) {
+    let l = a.reserved_free;
+    if !keeps_rules(
+        a.sorted,
+        &l.starts,
+        &l.ends,
+        &l.used,
+        a.reserved_free_len,
+        t,
+    ) {
         return false;
     }
     let t = &words[2048..3072];
-    if !keeps_rules(a.sorted, a.general_regions, a.general_regions_len, t) {
+    let l = a.general_regions;
+    if !keeps_rules(
+        a.sorted,
+        &l.starts,
+        &l.ends,
+        &l.used,
+        a.general_regions_len,
+        t,
+    ) {
         return false;
     }
     let t = &words[3072..4096];
-    keeps_rules(a.sorted, a.reserved_regions, a.reserved_regions_len, t)
+    let l = a.reserved_regions;
+    keeps_rules(
+        a.sorted,
+        &l.starts,
+        &l.ends,
+        &l.used,
+        a.reserved_regions_len,
+        t,
+    )
 }
 
-// One list, in its form: "the record keeps each table's length, 0 in early form"; "in sorted form every early slot is unused".
-fn keeps_rules(sorted: bool, early: EarlyList, len: usize, t: &[u64]) -> bool
+// One list, in its form: "the record keeps each table's length, 0 in early form"; "in sorted form every early slot is unused". Its arrays
+// are lent, so that no slot is copied.
+fn keeps_rules<'a>(
+    sorted: bool,
+    starts: &'a [u64; 32],
+    ends: &'a [u64; 32],
+    used: &'a [bool; 32],
+    len: usize,
+    t: &[u64],
+) -> bool
+    requires { ⌜ (length (now starts) ≡ 32) × (length (now ends) ≡ 32) × (length (now used) ≡ 32) ⌝ }
     requires { ⌜ length (now t) ≡ 1024 ⌝ }
-    ensures { λ r. ⌜ r ≡ keepsIn sorted early len (now (t .entry)) ⌝ }
+    ensures { λ r. ⌜ r ≡ keepsIn sorted (earlyListOf (now (starts .entry)) (now (ends .entry)) (now (used .entry))) len (now (t .entry)) ⌝ }
 {
     if sorted {
-        if early_rules::is_idle(early) {
+        if early_rules::is_idle(starts, ends, used) {
             return table_rules::is_table(t, len);
         }
         return false;
     }
     if len == 0 {
-        return early_rules::is_early_list(early);
+        return early_rules::is_early_list(starts, ends, used);
     }
     false
 }

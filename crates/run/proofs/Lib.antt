@@ -1,3 +1,4 @@
 pub mod Along
 pub mod Left
+pub mod Quick
 pub mod Turns

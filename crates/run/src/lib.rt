@@ -4,8 +4,10 @@ ghost use mathlib.Core.Path.{_≡_};
 ghost use mathlib.Core.List.{_++_};
 ghost use Prim.Native.Nat.{_+_, _≤_};
 ghost use lib.ListN.{length, take, drop};
+ghost use Rattle.lengths.specs.Tables.{withLengths};
 ghost use Rattle.run.specs.Runs.{ranTo, answerWords, Runs};
 use commands::Decoded;
+use lengths::Lengths;
 use model::Answer;
 use model::FrameAllocator;
 
@@ -43,31 +45,44 @@ pub fn run(
 {
     let number = rules::check(a, words);
     let mut allocator = a;
+    // The record's lengths stand here; those in `allocator` may be old ones.
+    let mut n = lengths::lengths_of(a);
     let mut made = 0;
     while 3 <= calls.len() - 3 * made {
         let i = 3 * made;
         let decoded = commands::decode(areas.len(), calls[i], calls[i + 1], calls[i + 2]);
         let Decoded::Make(command) = decoded else {
-            return ended(allocator, made, RunEnd::Damaged);
+            return ended(allocator, n, made, RunEnd::Damaged);
         };
         let at = 5 * made;
         if answers.len() - at < 5 {
-            return ended(allocator, made, RunEnd::NoRoom);
+            return ended(allocator, n, made, RunEnd::NoRoom);
         }
-        let called = commands::make_call(allocator, words, number, command, areas, held);
+        // Most calls in sorted form copy no slots.
+        let tried = commands::try_call(number, allocator.sorted, n, words, command);
+        if tried.done {
+            put_answer(answers, at, tried.answer);
+            n = tried.lengths;
+            made += 1;
+            continue;
+        }
+        let before = lengths::with_lengths(allocator, n);
+        let called = commands::make_call(before, words, number, command, areas, held);
         put_answer(answers, at, called.answer);
         allocator = called.allocator;
+        n = lengths::lengths_of(allocator);
         made += 1;
     }
-    ended(allocator, made, RunEnd::Done)
+    ended(allocator, n, made, RunEnd::Done)
 }
 
-fn ended(allocator: FrameAllocator, made: usize, end: RunEnd) -> Ran
-    ensures { λ r. ⌜ r ≡ ranTo allocator made end ⌝ }
+fn ended(allocator: FrameAllocator, n: Lengths, made: usize, end: RunEnd) -> Ran
+    ensures { λ r. ⌜ r ≡ ranTo (withLengths allocator n) made end ⌝ }
 {
+    let after = lengths::with_lengths(allocator, n);
     Ran {
         ending: Ending { made, end },
-        allocator,
+        allocator: after,
     }
 }
 

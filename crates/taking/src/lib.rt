@@ -1,5 +1,6 @@
 // One of the lists of a record that keeps the rules: searched, and chunks taken out of it. Document 01, "How a request is met".
 ghost use mathlib.Core.Path.{_≡_};
+ghost use mathlib.Core.Bool.{true};
 ghost use Prim.Native.Nat.{_≤_, _<_};
 ghost use lib.ListN.{length};
 ghost use Rattle.memory_structs.specs.Range.{range};
@@ -8,11 +9,14 @@ ghost use Rattle.model.specs.Requests.{find};
 ghost use Rattle.model.specs.Store.{load};
 ghost use Rattle.lists.specs.Record.{slotsAt, withSlots, AllStored};
 ghost use Rattle.rules.specs.Check.{Ruled, Does};
+ghost use Rattle.lengths.specs.Tables.{tabled, TriedAs};
 ghost use Rattle.grants.specs.Grants.{Chooses, grantOf, entriesLeft};
 ghost use Rattle.chunks.specs.Searches.{foundOf};
 ghost use Rattle.taking.specs.Takes.{oneChunk, taken, grantedWith};
 use chunks::Search;
 use grants::Chosen;
+use lengths::Lengths;
+use lengths::Tried;
 use lists::WhichList;
 use memory_structs::FrameRange;
 use model::Answer;
@@ -130,4 +134,40 @@ pub fn granted(a: FrameAllocator, start: u64, end: u64) -> Called
         answer,
         allocator: a,
     }
+}
+
+// The search of `find_specific_chunk` in sorted form, on the tables alone.
+pub fn find_in_tables(n: Lengths, words: &[u64], which: WhichList, start: u64, end: u64) -> Search
+    requires { ⌜ Ruled (tabled n) (now words) ⌝ }
+    requires { ⌜ start ≤ end ⌝ }
+    ensures { λ r. ⌜ foundOf r ≡ find true (range start end) (slotsAt which (load (tabled n) (now (words .entry)))) ⌝ }
+{
+    let from = lists::part_of(which);
+    let len = lengths::length_at(n, which);
+    chunks::find_in_table(&words[from..from + 1024], len, start, end)
+}
+
+// The grant of `take` in sorted form, on the tables alone. A full table may have no place for what is left over.
+pub fn take_from_tables(
+    n: Lengths,
+    words: &mut [u64],
+    which: WhichList,
+    chosen: Chosen,
+    start: u64,
+    end: u64,
+) -> Tried
+    requires { ⌜ Ruled (tabled n) (now words) ⌝ }
+    requires { ⌜ Chooses true (slotsAt which (load (tabled n) (now words))) chosen start end ⌝ }
+    ensures { λ r. ⌜ TriedAs (taken which chosen start end (load (tabled n) (now (words .entry)))) (now (words .entry)) r (now (words .exit)) ⌝ }
+{
+    let from = lists::part_of(which);
+    let len = lengths::length_at(n, which);
+    if 512 <= len {
+        return lengths::not_done(n);
+    }
+    let after = grants::allocate_from_table(&mut words[from..from + 1024], len, chosen, start, end);
+    lengths::done(
+        lengths::with_length(n, which, after),
+        FrameRange::new(start, end),
+    )
 }

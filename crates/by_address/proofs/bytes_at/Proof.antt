@@ -23,11 +23,8 @@ returns-2 c =
     let s = c .before .before .before .before in
     does-refuse (s .args .a) (s .args .words .now) (s .pre) 2 _ (c .refused2 .ensures) _ (address-bytes-over _ _ _ (c .before .before .if1 .left) (c .before .if2 .taken))
 
-add-frames-of : tie.Need-add-frames-of
-add-frames-of c = search needs
-
-frames-of-requires : tie.Need-frames-of-requires
-frames-of-requires c κs = search needs
+frames-from-requires : tie.Need-frames-from-requires
+frames-from-requires c κs = search needs
 
 frames-at-requires : tie.Need-frames-at-requires
 frames-at-requires c κs = search needs
@@ -40,7 +37,7 @@ returns-3 c =
     let k = c .before .before in
     let f = k .before .before in
     let s = f .before .before .before .before in
-    does-as (sym (address-bytes-on (s .args .address) (s .args .num-bytes) (load (s .args .a) (s .args .words .now)) (f .before .before .if1 .left) (f .before .if2 .left) (f .frames-of .result) (f .frames-of .ensures))) (k .frames-at .ensures)
+    does-as (sym (address-bytes-on (s .args .address) (s .args .num-bytes) (load (s .args .a) (s .args .words .now)) (f .before .before .if1 .left) (f .before .if2 .left) (f .frames-from .result) (f .frames-from .ensures))) (k .frames-at .ensures)
 
 pub bytes-at-spec : {M : Type 1} → statement M
 bytes-at-spec =
@@ -50,8 +47,7 @@ bytes-at-spec =
     returns
     refused-requires-2
     returns-2
-    add-frames-of
-    frames-of-requires
+    frames-from-requires
     frames-at-requires
     same-length
     returns-3)

@@ -36,8 +36,8 @@ returns c =
     let s = k .before .before .before in
     subst (λ (x : Called). Gives (callOf (s .args .request)) (s .args .a) (s .args .words .now) x (s .args .words .now)) (sym (c .refused .ensures)) (gives-refused (callOf (s .args .request)) (s .args .a) (s .args .words .now) (no-buffer (s .args .request)) _ (k .check .ensures) (c .before .if1 .taken))
 
-meet-request-requires : tie.Need-meet-request-requires
-meet-request-requires c κs = checked-ruled _ _ (sym (c .before .before .check .ensures) ∙ c .before .if1 .left)
+meet-sorted-requires : tie.Need-meet-sorted-requires
+meet-sorted-requires c κs = (checked-ruled _ _ (sym (c .before .before .before .check .ensures) ∙ c .before .before .if1 .left), c .before .if2 .taken)
 
 same-length-2 : tie.Need-same-length-2
 same-length-2 c = search needs
@@ -45,7 +45,20 @@ same-length-2 c = search needs
 returns-2 : tie.Need-returns-2
 returns-2 c =
     let k = c .before .before in
-    let e = k .before .before in
+    let e = k .before .before .before in
+    let s = e .before .before .before .before in
+    gives-does (callOf (s .args .request)) (s .args .a) (s .args .words .now) (no-buffer (s .args .request)) (sym (e .before .check .ensures) ∙ e .if1 .left) _ _ (k .meet-sorted .ensures)
+
+meet-request-requires : tie.Need-meet-request-requires
+meet-request-requires c κs = checked-ruled _ _ (sym (c .before .before .before .check .ensures) ∙ c .before .before .if1 .left)
+
+same-length-3 : tie.Need-same-length-3
+same-length-3 c = search needs
+
+returns-3 : tie.Need-returns-3
+returns-3 c =
+    let k = c .before .before in
+    let e = k .before .before .before in
     let s = e .before .before .before .before in
     gives-does (callOf (s .args .request)) (s .args .a) (s .args .words .now) (no-buffer (s .args .request)) (sym (e .before .check .ensures) ∙ e .if1 .left) _ _ (k .meet-request .ensures)
 
@@ -57,6 +70,9 @@ allocate-spec =
     refused-requires
     same-length
     returns
-    meet-request-requires
+    meet-sorted-requires
     same-length-2
-    returns-2)
+    returns-2
+    meet-request-requires
+    same-length-3
+    returns-3)

@@ -1,26 +1,31 @@
 -- `run`: at each turn the calls made so far, and those that are left, are the calls of the list.
-use Prim.Native.Nat.{_*_, _-_}
+use Prim.Native.Nat.{_+_, _*_, _-_, _≤_}
 use mathlib.Core.Path.{sym, _∙_}
 use lib.ListN.{length}
 use Rattle.commands.proofs.Sound.{decoded-in-list}
-use Rattle.run.proofs.Turns.{Reached, reached-start, reached-next, stops-done, stops-damaged, stops-full}
+use Rattle.lengths.specs.Tables.{withLengths}
+use Rattle.run.proofs.Turns.{Reached, reached-next, stops-done, stops-damaged, stops-full}
+use Rattle.run.proofs.Quick.{reached-first, reached-apart, reached-still, tested-on, tables-checked, reached-tried, made-on}
 use borrow.Author.Needs.{needs}
 use native.Mathlib.Omega.{arith}
 use Rattle.run.proofs.run.Statement.{statement}
 use Rattle.run.proofs.run.Tie as tie
 
 abbrev Inv-loop : tie.InvT-loop
-Inv-loop words₀ calls areas answers₀ held₀ number allocator₀ made₀ words answers held allocator made =
-    Reached areas calls allocator₀ words₀ answers₀ held₀ number made allocator words answers held
+Inv-loop words₀ calls areas answers₀ held₀ number allocator₀ n₀ made₀ words answers held allocator n made =
+    Reached areas calls allocator₀ words₀ answers₀ held₀ number made (withLengths allocator n) words answers held
 
 abbrev μ-loop : tie.MeasureT-loop
-μ-loop words₀ calls areas answers₀ held₀ number allocator₀ made₀ words answers held allocator made = length calls - 3 * made
+μ-loop words₀ calls areas answers₀ held₀ number allocator₀ n₀ made₀ words answers held allocator n made = length calls - 3 * made
 
 check-requires : tie.Need-check-requires Inv-loop μ-loop
 check-requires c κs = search needs
 
+lengths-of-requires : tie.Need-lengths-of-requires Inv-loop μ-loop
+lengths-of-requires c κs = search needs
+
 loop-holds : tie.Need-loop-holds Inv-loop μ-loop
-loop-holds c = reached-start _ _ _ _ _ _ _ (c .check .ensures)
+loop-holds c = reached-first _ _ _ _ _ _ _ (c .before .check .ensures) _ (c .lengths-of .ensures)
 
 mul-loop : tie.Need-mul-loop Inv-loop μ-loop
 mul-loop c = omega arith
@@ -107,29 +112,71 @@ returns-2 c =
     let i = k .before .before .before .before .before in
     stops-full (i .loop .inv) (omega arith) _ _ (k .decode .ensures) (d .decoded .given .1) (omega arith) _ (c .ended2 .ensures)
 
-make-call-requires : tie.Need-make-call-requires Inv-loop μ-loop
-make-call-requires c κs =
-    let d = c .before .before .before .before in
-    let k = d .before .before in
-    (c .before .before .before .before .before .before .before .before .before .before .before .loop .inv .tested, decoded-in-list _ _ _ _ _ (sym (d .decoded .given .1) ∙ k .decode .ensures))
+-- another call is left
+more : (c : tie.In-loop Inv-loop μ-loop) → 3 * c .before .loop .made + 3 ≤ length (c .before .before .before .before .before .before .before .before .before .before .args .calls .now)
+more c = omega arith
+
+try-call-requires : tie.Need-try-call-requires Inv-loop μ-loop
+try-call-requires c κs = let l = c .before .before .before .before .before .before .before .before .before .before .loop in λ z e. tables-checked (l .allocator) (l .n) (l .inv) z e
 
 put-answer-requires : tie.Need-put-answer-requires Inv-loop μ-loop
 put-answer-requires c κs = omega arith
 
 add-made : tie.Need-add-made Inv-loop μ-loop
-add-made c = omega (arith, mul-i (c .before .before .before .before .before .before .before .before .before .before .before .before .before .before .before .before .before .before .before .before))
+add-made c = omega (arith, mul-i (c .before .before .before .before .before .before .before .before .before .before .before .before .before .before .before .before .before .before))
 
 loop-less : tie.Need-loop-less Inv-loop μ-loop
-loop-less c = omega arith
+loop-less c = omega (arith, more (c .before .before .before .before .before .before .before .before .before .before .before .before .before .before .before .before .before .before))
 
 loop-again : tie.Need-loop-again Inv-loop μ-loop
 loop-again c =
     let w = c .before .before .before in
-    let m = w .before .before .before .before .before .before in
-    let d = m .before .before .before .before .before in
+    let t = w .before .before .before .before .before in
+    let d = t .before .before .before .before in
     let k = d .before .before in
-    let i = k .before .before .before .before .before in
-    reached-next (i .loop .inv) (omega arith) _ _ (k .decode .ensures) (d .decoded .given .1) (omega arith) (m .make-call .ensures) _ (w .put-answer .ensures) (omega (arith, c .before .before .before .before .before .before .before .before .words .given)) (omega (arith, c .before .before .answers .given)) (omega (arith, c .before .before .before .before .before .before .held .given))
+    let i = k .before .before .before .before in
+    let l = i .before .loop in
+    reached-tried (l .allocator) (l .n) (l .inv) (more i) _ _ (k .decode .ensures) (d .decoded .given .1) (omega arith) _ (t .try-call .ensures) (w .before .before .if2 .taken) _ (w .put-answer .ensures) (omega (arith, c .before .before .before .before .before .before .before .words .given)) (omega (arith, c .before .before .answers .given))
+
+with-lengths-requires : tie.Need-with-lengths-requires Inv-loop μ-loop
+with-lengths-requires c κs = search needs
+
+make-call-requires : tie.Need-make-call-requires Inv-loop μ-loop
+make-call-requires c κs =
+    let e = c .before .before .before in
+    let t = e .before .before .before in
+    let d = t .before .before .before .before in
+    let k = d .before .before in
+    let l = k .before .before .before .before .before .loop in
+    let s = reached-still (l .allocator) (l .n) (l .inv) _ (t .try-call .ensures .leaves (e .if2 .left)) in
+    (tested-on s _ (c .before .before .with-lengths .ensures), decoded-in-list _ _ _ _ _ (sym (d .decoded .given .1) ∙ k .decode .ensures))
+
+put-answer-requires-2 : tie.Need-put-answer-requires-2 Inv-loop μ-loop
+put-answer-requires-2 c κs = omega arith
+
+lengths-of-requires-2 : tie.Need-lengths-of-requires-2 Inv-loop μ-loop
+lengths-of-requires-2 c κs = search needs
+
+add-made-2 : tie.Need-add-made-2 Inv-loop μ-loop
+add-made-2 c = omega (arith, mul-i (c .before .before .before .before .before .before .before .before .before .before .before .before .before .before .before .before .before .before .before .before .before .before .before .before .before .before .before))
+
+loop-less-2 : tie.Need-loop-less-2 Inv-loop μ-loop
+loop-less-2 c = omega (arith, more (c .before .before .before .before .before .before .before .before .before .before .before .before .before .before .before .before .before .before .before .before .before .before .before .before .before .before .before))
+
+loop-again-2 : tie.Need-loop-again-2 Inv-loop μ-loop
+loop-again-2 c =
+    let w = c .before .before .before .before in
+    let m = w .before .before .before .before .before .before in
+    let p = m .before .before .before in
+    let e = p .before in
+    let t = e .before .before .before in
+    let d = t .before .before .before .before in
+    let k = d .before .before in
+    let i = k .before .before .before .before in
+    let l = i .before .loop in
+    let s = reached-still (l .allocator) (l .n) (l .inv) _ (t .try-call .ensures .leaves (e .if2 .left)) in
+    reached-apart
+    (reached-next s (more i) _ _ (k .decode .ensures) (d .decoded .given .1) (omega arith) (made-on (p .with-lengths .ensures) (m .make-call .ensures)) _ (w .put-answer2 .ensures) (omega (arith, c .before .before .before .before .before .before .before .before .before .words2 .given)) (omega (arith, c .before .before .before .answers2 .given)) (omega (arith, c .before .before .before .before .before .before .before .held .given))) _ (c .lengths-of2 .ensures)
 
 ended-requires-3 : tie.Need-ended-requires-3 Inv-loop μ-loop
 ended-requires-3 c κs = search needs
@@ -153,6 +200,7 @@ run-spec =
     Inv-loop
     μ-loop
     check-requires
+    lengths-of-requires
     loop-holds
     mul-loop
     sub-loop
@@ -180,11 +228,18 @@ run-spec =
     same-length-5
     same-length-6
     returns-2
-    make-call-requires
+    try-call-requires
     put-answer-requires
     add-made
     loop-less
     loop-again
+    with-lengths-requires
+    make-call-requires
+    put-answer-requires-2
+    lengths-of-requires-2
+    add-made-2
+    loop-less-2
+    loop-again-2
     ended-requires-3
     same-length-7
     same-length-8
