@@ -3,7 +3,6 @@
 // frame call returns document 01's number and writes the rest of its answer to `out`, whole, refused calls included. C sees a lent slice
 // as a pointer and its number of words, and no enum: a kind is a word, 0 for general and any other number for reserved.
 pub mod allocations;
-mod answers;
 pub mod boots;
 pub mod deallocations;
 pub mod questions;

@@ -2,13 +2,13 @@
 ghost use Rattle.memory_structs.specs.Range.{range};
 ghost use Rattle.memory_structs.specs.RangeCalls.{sizeInFrames, containsRange, overlap, toExtended, fromPhysAddr, offsetOfAddress, addressAtOffset};
 ghost use Rattle.memory_structs.specs.FrameCalls.{merge, splitRange, splitAt};
-ghost use Rattle.exports.specs.Words.{Written, unitWords, numberWords, rangeWords, splitWords, halvesWords};
-use crate::answers::put_halves;
-use crate::answers::put_number;
-use crate::answers::put_range;
-use crate::answers::put_split;
-use crate::answers::put_test;
+ghost use Rattle.range_answers.specs.Words.{Written, unitWords, numberWords, rangeWords, splitWords, halvesWords};
 use memory_structs::FrameRange;
+use range_answers::put_halves;
+use range_answers::put_number;
+use range_answers::put_range;
+use range_answers::put_split;
+use range_answers::put_test;
 
 // out: found, size.
 #[no_mangle]

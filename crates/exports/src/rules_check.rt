@@ -1,5 +1,5 @@
-// The test of a record and its workspace: the one that a call of the allocator makes before anything else, but for the length of the
-// held list's buffer.
+// The test of a record and its workspace: the one whose number a call of the allocator answers before any other, but for the length of
+// the held list's buffer.
 ghost use mathlib.Core.Path.{_≡_};
 ghost use Rattle.rules.specs.Check.{checked};
 use model::FrameAllocator;

@@ -1,6 +1,6 @@
 // Answers as words: 1 for yes, 0 for no and for 2, then the value, a range as its start and end. The number is returned.
 ghost use Rattle.memory_structs.specs.Answers.{shownTest, shownNumber, shownRange, shownSplit, shownHalves};
-ghost use Rattle.exports.specs.Words.{Written, unitWords, numberWords, rangeWords, splitWords, halvesWords};
+ghost use Rattle.range_answers.specs.Words.{Written, unitWords, numberWords, rangeWords, splitWords, halvesWords};
 use memory_structs::MaybeHalves;
 use memory_structs::MaybeNumber;
 use memory_structs::MaybeRange;
@@ -10,7 +10,7 @@ use memory_structs::YesNo;
 // Document 01's number for what is out of bounds.
 const OUT_OF_BOUNDS: u64 = 2;
 
-pub(crate) fn put_test(answer: YesNo, out: &mut [u64; 1]) -> u64
+pub fn put_test(answer: YesNo, out: &mut [u64; 1]) -> u64
     ensures { λ r. ⌜ Written unitWords (shownTest answer) r (now (out .exit)) ⌝ }
 {
     match answer {
@@ -29,7 +29,7 @@ pub(crate) fn put_test(answer: YesNo, out: &mut [u64; 1]) -> u64
     }
 }
 
-pub(crate) fn put_number(answer: MaybeNumber, out: &mut [u64; 2]) -> u64
+pub fn put_number(answer: MaybeNumber, out: &mut [u64; 2]) -> u64
     ensures { λ r. ⌜ Written numberWords (shownNumber answer) r (now (out .exit)) ⌝ }
 {
     match answer {
@@ -48,7 +48,7 @@ pub(crate) fn put_number(answer: MaybeNumber, out: &mut [u64; 2]) -> u64
     }
 }
 
-pub(crate) fn put_range(answer: MaybeRange, out: &mut [u64; 3]) -> u64
+pub fn put_range(answer: MaybeRange, out: &mut [u64; 3]) -> u64
     ensures { λ r. ⌜ Written rangeWords (shownRange answer) r (now (out .exit)) ⌝ }
 {
     match answer {
@@ -67,7 +67,7 @@ pub(crate) fn put_range(answer: MaybeRange, out: &mut [u64; 3]) -> u64
     }
 }
 
-pub(crate) fn put_split(answer: MaybeSplit, out: &mut [u64; 7]) -> u64
+pub fn put_split(answer: MaybeSplit, out: &mut [u64; 7]) -> u64
     ensures { λ r. ⌜ Written splitWords (shownSplit answer) r (now (out .exit)) ⌝ }
 {
     match answer {
@@ -94,7 +94,7 @@ pub(crate) fn put_split(answer: MaybeSplit, out: &mut [u64; 7]) -> u64
     }
 }
 
-pub(crate) fn put_halves(answer: MaybeHalves, out: &mut [u64; 5]) -> u64
+pub fn put_halves(answer: MaybeHalves, out: &mut [u64; 5]) -> u64
     ensures { λ r. ⌜ Written halvesWords (shownHalves answer) r (now (out .exit)) ⌝ }
 {
     match answer {

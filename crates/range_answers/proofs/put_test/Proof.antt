@@ -1,8 +1,8 @@
 -- `put_test` writes the words of each case as they are shown.
 use mathlib.Core.Path.{refl}
 use borrow.Author.Needs.{needs}
-use Rattle.exports.proofs.answers.put_test.Statement.{statement}
-use Rattle.exports.proofs.answers.put_test.Tie as tie
+use Rattle.range_answers.proofs.put_test.Statement.{statement}
+use Rattle.range_answers.proofs.put_test.Tie as tie
 
 enum-told : tie.Need-enum-told
 enum-told c = search needs
