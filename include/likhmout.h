@@ -1,7 +1,7 @@
 /* Likhmout: the physical frame allocator of Theseus, proved, for C and C++ programs on x86-64.
  *
- * `rt staticlib exports` writes target/staticlib/libexports.a, which has every function below. It needs memcpy and memset, and
- * nothing else; it is compiled for the System V ABI, with SSE2 registers and a red zone. The functions are those of
+ * `rt staticlib exports` writes target/staticlib/libexports.a, which has every function below but the inline ones. It needs memcpy and
+ * memset, and nothing else; it is compiled for the System V ABI, with SSE2 registers and a red zone. Its functions are those of
  * crates/exports/src, where the contract of each says what it is proved to do. "Document 01" is the specification.
  *
  * A frame is 4,096 bytes of physical memory, named by its number. The record (likhmout_frame_allocator) and a workspace of at least
@@ -180,7 +180,7 @@ LIKHMOUT_ASSERT(run_counts_end, offsetof(likhmout_run_counts, end) == 8);
 /* A record in early form with every slot unused. */
 likhmout_frame_allocator likhmout_fresh(void);
 
-/* The test that a call of the allocator makes before anything else, but for the length of the held list's buffer: 0, 3 or 11. */
+/* The test whose number a call of the allocator answers before any other, but for the length of the held list's buffer: 0, 3 or 11. */
 uint64_t likhmout_check(const likhmout_frame_allocator *a, const uint64_t *words, size_t words_len);
 
 /* Whether the flags are 0 or 1, as the library takes them to be. For a record that comes from elsewhere, as from a chip that kept it. */
@@ -232,11 +232,11 @@ likhmout_answer likhmout_convert_frame_allocator_to_heap_based(
 
 /* ---- requests: the granted frames are the answer's range */
 
-/* So many general frames, wherever they are. Refused: 3, 11, 1, 14, 18. */
+/* So many general frames, wherever they are. Refused: 3, 11, 1, 14. */
 likhmout_answer likhmout_allocate_frames(
     likhmout_frame_allocator *a, uint64_t *words, size_t words_len, uint64_t num_frames);
 
-/* General frames for so many bytes. Refused: 3, 11, 2, 1, 14, 18. */
+/* General frames for so many bytes. Refused: 3, 11, 2, 1, 14. */
 likhmout_answer likhmout_allocate_frames_by_bytes(
     likhmout_frame_allocator *a, uint64_t *words, size_t words_len, uint64_t num_bytes);
 

@@ -150,7 +150,7 @@ fn missing(a: FrameAllocator, frame: u64, count: u64) -> Called
     }
 }
 
-// The request of `frames_at` in sorted form, on the tables alone: done where a list has all of the frames.
+// The request of `frames_at` in sorted form, on the tables alone: done where a list has all of the frames, and isn't full.
 pub fn frames_in_tables(n: Lengths, words: &mut [u64], frame: u64, num_frames: u64) -> Tried
     requires { ⌜ Ruled (tabled n) (now words) ⌝ }
     ensures { λ r. ⌜ TriedAs (byAddress frame «num_frames» (load (tabled n) (now (words .entry)))) (now (words .entry)) r (now (words .exit)) ⌝ }

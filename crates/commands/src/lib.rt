@@ -99,8 +99,8 @@ fn are_listed(areas_len: usize, first: u64, count: u64) -> bool
     false
 }
 
-// Makes the call. The number is the test's, made before; where it is 0 the call goes on without a test, and keeps the rules
-// (`test-lasts`, rules/proofs/Lasting).
+// Makes the call. The number is the test's, made before; where it is 0 the call goes on, and keeps the rules (`test-lasts`,
+// rules/proofs/Lasting). Only boots and sorts, which are rare, test again.
 pub fn make_call(
     a: FrameAllocator,
     words: &mut [u64],

@@ -127,7 +127,7 @@ pub fn meet_request(a: FrameAllocator, words: &mut [u64], request: Request) -> C
     }
 }
 
-// The request of `meet_request` in sorted form, on the tables alone: done where a list has frames for it.
+// The request of `meet_request` in sorted form, on the tables alone: done where a list has frames for it, and isn't full.
 pub fn meet_in_tables(n: Lengths, words: &mut [u64], request: Request) -> Tried
     requires { ⌜ Ruled (tabled n) (now words) ⌝ }
     ensures { λ r. ⌜ TriedAs (answer (callOf request) (load (tabled n) (now (words .entry)))) (now (words .entry)) r (now (words .exit)) ⌝ }

@@ -108,7 +108,7 @@ fn each_keeps(a: FrameAllocator, words: &[u64]) -> bool
 }
 
 // One list, in its form: "the record keeps each table's length, 0 in early form"; "in sorted form every early slot is unused". Its arrays
-// are lent, so that no slot is copied.
+// are lent, not handed over by value.
 fn keeps_rules<'a>(
     sorted: bool,
     starts: &'a [u64; 32],

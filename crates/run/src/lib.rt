@@ -1,5 +1,5 @@
-// A list of calls of any length, run from a record and its workspace: docs/RUN.md. The rules are tested once; what the calls give is what
-// they give where each is tested by itself (`test-lasts`, rules/proofs/Lasting).
+// A list of calls of any length, run from a record and its workspace: docs/RUN.md. The rules are tested once, and again by a boot or a
+// sort; what the calls give is what they give where each is tested by itself (`test-lasts`, rules/proofs/Lasting).
 ghost use mathlib.Core.Path.{_≡_};
 ghost use mathlib.Core.List.{_++_};
 ghost use Prim.Native.Nat.{_+_, _≤_};
