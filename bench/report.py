@@ -31,8 +31,8 @@ list has 32 slots.
 """,
     "boot": """## Boots
 
-Size: how many areas. With c, as with d, the Rust's lists are emptied before each boot, and that isn't timed. An entry of one boot through a run has the
-test twice.
+Size: how many areas. Before each boot of c and d the Rust's lists are emptied, and that isn't timed. A run of one boot tests the rules
+twice: as it starts, and in the boot.
 """,
     "sort": """## Sort
 
@@ -47,6 +47,23 @@ The Rust has none: c is a plain Rust walk over the same words.
 d is the plain pass alone.
 """,
 }
+
+AIMS = """## Aims
+
+For requests and returns: through `run` a call takes no longer than the Rust's (b/c at most 1), and a checked call takes at most 1.25
+times the plain pass and the Rust's call (a/d).
+"""
+
+LEFT_OVER = """Why these are missed; what has been mended is in [DECISIONS.md](DECISIONS.md), "Speed":
+
+- **A whole chunk leaves the middle or the bottom of a long table.** A table is an array in the lent words, so the pairs above move, up
+  to 8 KB each way. The Rust has a tree, whose nodes need a heap.
+- **Early form.** The record, 2.2 KB, is handed by value from function to function, some 13 times a call. It doesn't grow: a list has 32
+  slots. Early form is for the calls between boot and sort.
+- **A checked call on short lists.** Where the test is short, four copies of the record show: in, to the call, out, back.
+- **Boots and sorts**, which have no aim of their own, copy as well: a boot the reserved areas for each general one, a sort the record. Each is
+  made once.
+"""
 
 GROWTH = """## As the lists grow
 
@@ -73,8 +90,27 @@ def ratio(times, above, below):
     return f"{times[above] / times[below]:.2f}" if above in times and below in times else ""
 
 
+def aim(rows, above, below, most):
+    """How many rows of the requests meet the aim, and those that don't."""
+    found = [(case, form, size, times[above] / times[below]) for (table, case, form, size), times in rows.items() if table == "requests"]
+    missed = [f"{case}, {form} form, {size}: {by:.2f}" for case, form, size, by in found if round(by, 2) > most]
+    return len(found) - len(missed), len(found), missed
+
+
+def aims(rows):
+    print(AIMS)
+    for name, above, below, most in [("b/c at most 1", "run", "rust", 1), ("a/d at most 1.25", "single", "rust_tested", 1.25)]:
+        met, total, missed = aim(rows, above, below, most)
+        print(f"- **{name}**: met in {met} of {total} rows." + (" Missed:" if missed else ""))
+        for row in missed:
+            print(f"  - {row}")
+    print()
+    print(LEFT_OVER)
+
+
 def page(facts, rows):
-    print(INTRO.format(facts="; ".join(facts[:1] + facts[1:]).capitalize() + "."))
+    facts = "; ".join(facts)
+    print(INTRO.format(facts=facts[0].upper() + facts[1:] + "."))
     for table, text in TABLES.items():
         print(text)
         print("| call | form | size | a | b | c | d | b/c | a/d |")
@@ -85,6 +121,8 @@ def page(facts, rows):
                 ends = [ratio(times, "run", "rust"), ratio(times, "single", "rust_tested")]
                 print("| " + " | ".join([case, form, f"{size:,}", *cells, *ends]) + " |")
         print()
+        if table == "requests":
+            aims(rows)
     print(GROWTH, end="")
 
 
