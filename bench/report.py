@@ -8,7 +8,6 @@ import math
 import sys
 
 SIDES = ["single", "run", "rust", "rust_tested"]
-LETTERS = dict(zip(SIDES, "abcd"))
 
 INTRO = """# Speed beside the Rust
 
@@ -70,6 +69,9 @@ GROWTH = """## As the lists grow
 ![time of a call against entries in each list](speed.svg)
 """
 
+HEAD = """| call | form | size | a | b | c | d | b/c | a/d |
+|---|---|---|---|---|---|---|---|---|"""
+
 
 def read(path):
     facts, rows = [], {}
@@ -108,70 +110,77 @@ def aims(rows):
     print(LEFT_OVER)
 
 
+def lines(rows, table):
+    """The rows of one table."""
+    print(HEAD)
+    for (of, case, form, size), times in rows.items():
+        if of == table:
+            cells = [shown(times.get(side)) for side in SIDES]
+            ends = [ratio(times, "run", "rust"), ratio(times, "single", "rust_tested")]
+            print("| " + " | ".join([case, form, f"{size:,}", *cells, *ends]) + " |")
+
+
 def page(facts, rows):
     facts = "; ".join(facts)
     print(INTRO.format(facts=facts[0].upper() + facts[1:] + "."))
     for table, text in TABLES.items():
         print(text)
-        print("| call | form | size | a | b | c | d | b/c | a/d |")
-        print("|---|---|---|---|---|---|---|---|---|")
-        for (of, case, form, size), times in rows.items():
-            if of == table:
-                cells = [shown(times.get(side)) for side in SIDES]
-                ends = [ratio(times, "run", "rust"), ratio(times, "single", "rust_tested")]
-                print("| " + " | ".join([case, form, f"{size:,}", *cells, *ends]) + " |")
+        lines(rows, table)
         print()
         if table == "requests":
             aims(rows)
-    print(GROWTH, end="")
+    print(GROWTH)
+    lines(rows, "growth")
 
 
 COLOURS = {"single": "#7a3b9a", "run": "#1f6fb2", "rust": "#c4541a", "rust_tested": "#8a6d1a"}
-WIDTH, HEIGHT, LEFT, TOP, GAP = 380, 300, 60, 50, 60
+NAMES = {"single": "a: single calls", "run": "b: through run", "rust": "c: the Rust", "rust_tested": "d: plain test and the Rust"}
+WIDTH, HEIGHT, LEFT, TOP, GAP = 380, 260, 60, 70, 70
 
 
 class Panel:
     """One case: entries to the right, nanoseconds upwards, both by powers."""
 
-    def __init__(self, left, case, rows):
-        self.left, self.case = left, case
+    def __init__(self, place, case, rows):
+        self.left, self.top = LEFT + place % 2 * (WIDTH + GAP), TOP + place // 2 * (HEIGHT + GAP + 20)
+        self.case = case
         self.points = {size: times for (table, of, _, size), times in rows.items() if table == "growth" and of == case}
 
     def x(self, size):
         return self.left + WIDTH * math.log2(size) / 9
 
     def y(self, ns):
-        return TOP + HEIGHT * (1 - (math.log10(ns) - 1) / 3)
+        return self.top + HEIGHT * (1 - (math.log10(ns) - 1) / 3)
 
     def axes(self):
-        yield f'<text x="{self.left}" y="{TOP - 14}" font-weight="bold">{self.case}</text>'
+        yield f'<text x="{self.left}" y="{self.top - 14}" font-weight="bold">{self.case}</text>'
         for ns in [10, 100, 1000, 10000]:
             y = self.y(ns)
             yield f'<line x1="{self.left}" y1="{y:.1f}" x2="{self.left + WIDTH}" y2="{y:.1f}" stroke="#ddd"/>'
             yield f'<text x="{self.left - 6}" y="{y + 4:.1f}" text-anchor="end">{ns:,}</text>'
         for size in [1, 4, 16, 64, 256, 511]:
-            yield f'<text x="{self.x(size):.1f}" y="{TOP + HEIGHT + 18}" text-anchor="middle">{size}</text>'
-        yield f'<text x="{self.left + WIDTH / 2}" y="{TOP + HEIGHT + 38}" text-anchor="middle">entries in each list</text>'
+            yield f'<text x="{self.x(size):.1f}" y="{self.top + HEIGHT + 18}" text-anchor="middle">{size}</text>'
+        yield f'<text x="{self.left + WIDTH / 2}" y="{self.top + HEIGHT + 36}" text-anchor="middle">entries in each list</text>'
 
     def lines(self):
         for side in SIDES:
-            sizes = sorted(self.points)
-            path = " ".join(f"{self.x(size):.1f},{self.y(self.points[size][side]):.1f}" for size in sizes)
+            path = " ".join(f"{self.x(size):.1f},{self.y(times[side]):.1f}" for size, times in sorted(self.points.items()))
             yield f'<polyline points="{path}" fill="none" stroke="{COLOURS[side]}" stroke-width="2"/>'
-            last = self.points[sizes[-1]][side]
-            yield f'<text x="{self.x(sizes[-1]) + 6:.1f}" y="{self.y(last) + 4:.1f}" fill="{COLOURS[side]}">{LETTERS[side]}</text>'
 
 
 def plot(facts, rows):
     cases = list(dict.fromkeys(case for (table, case, _, _) in rows if table == "growth"))
-    panels = [Panel(LEFT + i * (WIDTH + GAP), case, rows) for i, case in enumerate(cases)]
-    width = LEFT + len(cases) * (WIDTH + GAP)
-    print(f'<svg xmlns="http://www.w3.org/2000/svg" width="{width}" height="{TOP + HEIGHT + 80}" font-family="sans-serif" font-size="12">')
-    print(f'<rect width="{width}" height="{TOP + HEIGHT + 80}" fill="white"/>')
-    print(f'<text x="{LEFT}" y="18">ns a call, with its return: a single, b through run, c the Rust, d plain test and the Rust</text>')
+    panels = [Panel(place, case, rows) for place, case in enumerate(cases)]
+    width, bottom = LEFT + 2 * (WIDTH + GAP), panels[-1].top + HEIGHT
+    height = bottom + 90
+    print(f'<svg xmlns="http://www.w3.org/2000/svg" width="{width}" height="{height}" font-family="sans-serif" font-size="12">')
+    print(f'<rect width="{width}" height="{height}" fill="white"/>')
+    print(f'<text x="{LEFT}" y="20">nanoseconds a call, with its return:</text>')
+    for place, side in enumerate(SIDES):
+        print(f'<text x="{LEFT + 225 + 130 * place}" y="20" fill="{COLOURS[side]}">{NAMES[side]}</text>')
     for panel in panels:
         print("\n".join([*panel.axes(), *panel.lines()]))
-    print(f'<text x="{LEFT}" y="{TOP + HEIGHT + 66}" fill="#666">{"; ".join(facts)}</text>')
+    print(f'<text x="{LEFT}" y="{bottom + 66}" fill="#666">{"; ".join(facts[:2])}</text>')
     print("</svg>")
 
 
