@@ -116,7 +116,7 @@ tried-as {ws = ws} {after = after} {t = t} e d = subst (λ (x : Result). TriedAs
 
 -- a record in sorted form that keeps the rules, by its lengths
 module _ (a : FrameAllocator) (ws : List ℕ) (u : Ruled a ws) (e : a .sorted ≡ true) {n : Lengths} (p : n ≡ lengthsOf a) where
-  by-lengths : tabled n ≡ a
+  pub by-lengths : tabled n ≡ a
   by-lengths = ap tabled p ∙ sym (ruled-tabled a ws u e (lengthsOf a))
 
   pub ruled-lengths : Ruled (tabled n) ws

@@ -121,6 +121,15 @@ pub fn called(a: FrameAllocator, tried: Tried) -> Called
     ensures { λ r. ⌜ r ≡ calledWith a tried ⌝ }
 {
     let answer = tried.answer;
-    let allocator = with_lengths(a, tried.lengths);
-    Called { answer, allocator }
+    let n = tried.lengths;
+    // The lengths go where the record is handed back, so that it is copied once.
+    let mut called = Called {
+        answer,
+        allocator: a,
+    };
+    called.allocator.general_free_len = n.general_free;
+    called.allocator.reserved_free_len = n.reserved_free;
+    called.allocator.general_regions_len = n.general_regions;
+    called.allocator.reserved_regions_len = n.reserved_regions;
+    called
 }

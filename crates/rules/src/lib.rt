@@ -67,41 +67,44 @@ fn each_keeps(a: FrameAllocator, words: &[u64]) -> bool
     ensures { λ r. ⌜ r ≡ eachKeeps a (now (words .entry)) ⌝ }
 {
     let t = &words[0..1024];
-    let l = a.general_free;
-    if !keeps_rules(a.sorted, &l.starts, &l.ends, &l.used, a.general_free_len, t) {
+    if !keeps_rules(
+        a.sorted,
+        &a.general_free.starts,
+        &a.general_free.ends,
+        &a.general_free.used,
+        a.general_free_len,
+        t,
+    ) {
         return false;
     }
     let t = &words[1024..2048];
-    let l = a.reserved_free;
     if !keeps_rules(
         a.sorted,
-        &l.starts,
-        &l.ends,
-        &l.used,
+        &a.reserved_free.starts,
+        &a.reserved_free.ends,
+        &a.reserved_free.used,
         a.reserved_free_len,
         t,
     ) {
         return false;
     }
     let t = &words[2048..3072];
-    let l = a.general_regions;
     if !keeps_rules(
         a.sorted,
-        &l.starts,
-        &l.ends,
-        &l.used,
+        &a.general_regions.starts,
+        &a.general_regions.ends,
+        &a.general_regions.used,
         a.general_regions_len,
         t,
     ) {
         return false;
     }
     let t = &words[3072..4096];
-    let l = a.reserved_regions;
     keeps_rules(
         a.sorted,
-        &l.starts,
-        &l.ends,
-        &l.used,
+        &a.reserved_regions.starts,
+        &a.reserved_regions.ends,
+        &a.reserved_regions.used,
         a.reserved_regions_len,
         t,
     )
