@@ -7,10 +7,12 @@ ghost use Rattle.model.specs.Rules.{tidy};
 ghost use Rattle.model.specs.Queries.{HeldWritten};
 ghost use Rattle.model.specs.Store.{load};
 ghost use Rattle.rules.specs.Check.{Ruled};
+ghost use Rattle.lengths.specs.Tables.{tabled};
 ghost use Rattle.sorting.specs.Ordered.{inOrder};
 ghost use Rattle.held.specs.Runs.{twoTables};
 ghost use Rattle.held_list.specs.Listed.{Listed};
 use held::write_runs;
+use lengths::Lengths;
 use model::Answer;
 use model::EarlyList;
 use model::FrameAllocator;
@@ -21,26 +23,27 @@ pub fn held_list(a: FrameAllocator, words: &[u64], buffer: &mut [u64]) -> Answer
     requires { ⌜ 2048 ≤ length (now buffer) ⌝ }
     ensures { λ r. ⌜ Listed (load a (now (words .entry))) (now (buffer .entry)) r (now (buffer .exit)) ⌝ }
 {
-    let runs = write_held(a, words, buffer);
+    if a.sorted {
+        return held_in_tables(lengths::lengths_of(a), words, buffer);
+    }
+    let runs = write_from_slots(a.general_regions, a.general_free, buffer);
     rules::without_frames(0, runs as u64)
 }
 
-// The runs, ascending. The answer is how many there are.
-fn write_held(a: FrameAllocator, words: &[u64], buffer: &mut [u64]) -> usize
-    requires { ⌜ Ruled a (now words) ⌝ }
+// The same in sorted form, on the tables alone, which are in order.
+pub fn held_in_tables(n: Lengths, words: &[u64], buffer: &mut [u64]) -> Answer
+    requires { ⌜ Ruled (tabled n) (now words) ⌝ }
     requires { ⌜ 2048 ≤ length (now buffer) ⌝ }
-    ensures { λ r. ⌜ HeldWritten (load a (now (words .entry))) r (now (buffer .entry)) (now (buffer .exit)) ⌝ }
+    ensures { λ r. ⌜ Listed (load (tabled n) (now (words .entry))) (now (buffer .entry)) r (now (buffer .exit)) ⌝ }
 {
-    if a.sorted {
-        return write_runs(
-            &words[2048..3072],
-            a.general_regions_len,
-            &words[0..1024],
-            a.general_free_len,
-            buffer,
-        );
-    }
-    write_from_slots(a.general_regions, a.general_free, buffer)
+    let count = write_runs(
+        &words[2048..3072],
+        n.general_regions,
+        &words[0..1024],
+        n.general_free,
+        buffer,
+    );
+    rules::without_frames(0, count as u64)
 }
 
 // The same walk over the early slots, put in order first: 64 words of the stack for each list, and the workspace is not read.
