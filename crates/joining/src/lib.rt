@@ -41,7 +41,11 @@ fn pass(l: RangeList) -> RangeList
     let mut left = l;
     while 0 < left.len {
         let a = absorb(left);
-        joined = carving::push(joined, a.start, a.end);
+        // In place, as in `absorb`.
+        let done = joined.len;
+        joined.starts[done] = a.start;
+        joined.ends[done] = a.end;
+        joined.len = done + 1;
         left = a.rest;
     }
     joined
@@ -65,7 +69,11 @@ fn absorb(l: RangeList) -> Absorbed
             start = lowest(start, other_start);
             end = highest(end, other_end);
         } else {
-            rest = carving::push(rest, other_start, other_end);
+            // Written in place: a push would copy the list for each area.
+            let kept = rest.len;
+            rest.starts[kept] = other_start;
+            rest.ends[kept] = other_end;
+            rest.len = kept + 1;
         }
     }
     Absorbed { start, end, rest }

@@ -60,17 +60,29 @@ loop-again c =
     let s = k .before .before .before .before in
     rw (c .before .lowest .ensures, c .highest .ensures) (omega arith, absorb-met (s .args .t1) (s .pre .0) (k .loop .start) (k .loop .end) (k .loop .rest) (k .loop .k) (k .loop .inv .1) (omega arith) (sym (c .before .before .before .meet .ensures) ∙ c .before .before .if1 .taken))
 
-push-requires : tie.Need-push-requires Inv-loop μ-loop
-push-requires c κs = tt
+mul-rest : tie.Need-mul-rest Inv-loop μ-loop
+mul-rest c = omega (arith, c .before .before .before .before .before .before .before .before .before .pre .0 .few)
+
+element-write-rest : tie.Need-element-write-rest Inv-loop μ-loop
+element-write-rest c = omega (arith, c .before .before .before .before .before .before .before .before .before .pre .0 .few)
+
+mul-rest-2 : tie.Need-mul-rest-2 Inv-loop μ-loop
+mul-rest-2 c = omega (arith, c .before .before .before .before .before .before .before .before .before .pre .0 .few)
+
+element-write-rest-2 : tie.Need-element-write-rest-2 Inv-loop μ-loop
+element-write-rest-2 c = omega (arith, c .before .before .before .before .before .before .before .before .before .pre .0 .few)
+
+add-rest : tie.Need-add-rest Inv-loop μ-loop
+add-rest c = omega (arith, c .before .before .before .before .before .before .before .before .before .pre .0 .few)
 
 loop-less-2 : tie.Need-loop-less-2 Inv-loop μ-loop
 loop-less-2 c = omega arith
 
 loop-again-2 : tie.Need-loop-again-2 Inv-loop μ-loop
 loop-again-2 c =
-    let k = c .before .before .before .before .before .before in
+    let k = c .before .before .before .before .before in
     let s = k .before .before .before .before in
-    (omega arith, absorb-not (s .args .t1) (s .pre .0) (k .loop .start) (k .loop .end) (k .loop .rest) (k .loop .k) (k .loop .inv .1) (omega arith) (sym (c .before .before .meet .ensures) ∙ c .before .if1 .left) _ (c .push .ensures))
+    (omega arith, absorb-not (s .args .t1) (s .pre .0) (k .loop .start) (k .loop .end) (k .loop .rest) (k .loop .k) (k .loop .inv .1) (omega arith) (sym (c .before .meet .ensures) ∙ c .if1 .left))
 
 returns : tie.Need-returns Inv-loop μ-loop
 returns c =
@@ -98,7 +110,11 @@ absorb-spec =
     highest-requires
     loop-less
     loop-again
-    push-requires
+    mul-rest
+    element-write-rest
+    mul-rest-2
+    element-write-rest-2
+    add-rest
     loop-less-2
     loop-again-2
     returns)

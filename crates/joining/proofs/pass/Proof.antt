@@ -1,6 +1,7 @@
 -- `pass`: at each turn the areas passed over are joined, and the others left.
 use Rattle.carving.specs.Ranges.{rangesIn}
 use Rattle.joining.proofs.Joining.{Passing, passing-start, passing-more, passing-end, todo-whole}
+use native.Mathlib.Omega.{arith}
 use Rattle.joining.proofs.pass.Statement.{statement}
 use Rattle.joining.proofs.pass.Tie as tie
 
@@ -22,20 +23,32 @@ absorb-requires c κs =
     let s = k .before .before in
     (todo-whole (rangesIn (s .args .l)) (k .loop .joined) (k .loop .left) (k .loop .inv), c .if1 .taken)
 
-push-requires : tie.Need-push-requires Inv-loop μ-loop
-push-requires c κs = tt
+mul-joined : tie.Need-mul-joined Inv-loop μ-loop
+mul-joined c = omega arith
+
+element-write-joined : tie.Need-element-write-joined Inv-loop μ-loop
+element-write-joined c = omega arith
+
+mul-joined-2 : tie.Need-mul-joined-2 Inv-loop μ-loop
+mul-joined-2 c = omega arith
+
+element-write-joined-2 : tie.Need-element-write-joined-2 Inv-loop μ-loop
+element-write-joined-2 c = omega arith
+
+add-joined : tie.Need-add-joined Inv-loop μ-loop
+add-joined c = omega arith
 
 loop-less : tie.Need-loop-less Inv-loop μ-loop
 loop-less c =
-    let k = c .before .before .before .before .before in
+    let k = c .before .before .before .before in
     let s = k .before .before in
-    passing-more (rangesIn (s .args .l)) (k .loop .joined) (k .loop .left) (k .loop .inv) (c .before .before .before .if1 .taken) (c .before .before .absorb .result .start) (c .before .before .absorb .result .end) _ _ (c .before .before .absorb .ensures .0) (c .before .before .absorb .ensures .1) (c .before .push .ensures) .1
+    passing-more (rangesIn (s .args .l)) (k .loop .joined) (k .loop .left) (k .loop .inv) (c .before .before .if1 .taken) (c .before .absorb .result .start) (c .before .absorb .result .end) _ (c .before .absorb .ensures .0) (c .before .absorb .ensures .1) .1
 
 loop-again : tie.Need-loop-again Inv-loop μ-loop
 loop-again c =
-    let k = c .before .before .before .before .before in
+    let k = c .before .before .before .before in
     let s = k .before .before in
-    passing-more (rangesIn (s .args .l)) (k .loop .joined) (k .loop .left) (k .loop .inv) (c .before .before .before .if1 .taken) (c .before .before .absorb .result .start) (c .before .before .absorb .result .end) _ _ (c .before .before .absorb .ensures .0) (c .before .before .absorb .ensures .1) (c .before .push .ensures) .0
+    passing-more (rangesIn (s .args .l)) (k .loop .joined) (k .loop .left) (k .loop .inv) (c .before .before .if1 .taken) (c .before .absorb .result .start) (c .before .absorb .result .end) _ (c .before .absorb .ensures .0) (c .before .absorb .ensures .1) .0
 
 returns : tie.Need-returns Inv-loop μ-loop
 returns c =
@@ -52,7 +65,11 @@ pass-spec =
     no-ranges-requires
     loop-holds
     absorb-requires
-    push-requires
+    mul-joined
+    element-write-joined
+    mul-joined-2
+    element-write-joined-2
+    add-joined
     loop-less
     loop-again
     returns)
