@@ -14,6 +14,7 @@ use Rattle.model.specs.Store.{slotsOf, earlyOf}
 use Rattle.model.specs.declared.EarlyList.{EarlyList}
 use Rattle.model.proofs.Stored.{early-again}
 use Rattle.early.specs.Slots.{IsEarly}
+use Rattle.early.proofs.Slots.{stored, written}
 use Rattle.carving.specs.declared.RangeList.{RangeList}
 use Rattle.carving.specs.Ranges.{rangesIn, Whole}
 use Rattle.carving.proofs.Listed.{whole-length, range-at}
@@ -57,18 +58,19 @@ module _ (l : RangeList) (w : Whole l) (i : ℕ) where
     has-slots : slotsOf e ≡ filledTo i l
     has-slots = ap slotsOf q ∙ early-again (filledTo i l)
 
-    pub filled-early : IsEarly e
+    filled-early : IsEarly e
     filled-early = record {
       size = ap length has-slots ∙ full;
       plain = ap earlyOf has-slots ∙ sym q;
     }
 
-    pub filled-next : i < l .len → earlyOf (set (slotsOf e) i (used (range (getD (l .starts) i 0) (getD (l .ends) i 0)))) ≡ earlyOf (filledTo (i + 1) l)
+    pub filled-next : i < l .len → stored e i (used (range (getD (l .starts) i 0) (getD (l .ends) i 0))) ≡ earlyOf (filledTo (i + 1) l)
     filled-next h =
         let r : FrameRange = range (getD (l .starts) i 0) (getD (l .ends) i 0) in
         let n : length (take i (rangesIn l)) ≡ i = omega (arith, length-take i (rangesIn l), whole-length l w) in
         let t : take (i + 1) (rangesIn l) ≡ take i (rangesIn l) ++ r ∷ [] = ap (λ (k : ℕ). take k (rangesIn l)) (add-one i) ∙ take-next i (rangesIn l) _ r (range-at l w i h) in
-        ap earlyOf
+        written e i (used r) filled-early
+        ∙ ap earlyOf
         (ap (λ (s : List Slot). set s i (used r)) has-slots
         ∙ ap (λ (k : ℕ). set (filledTo i l) k (used r)) (sym n)
         ∙ next-early (take i (rangesIn l)) r (omega (arith, w .few))

@@ -96,7 +96,10 @@ fn early_list(l: RangeList) -> EarlyList
     let mut slots = lists::unused_slots();
     let mut i = 0;
     while i < l.len {
-        slots = early::fill(slots, i, l.starts[i], l.ends[i]);
+        // Written in place: `early::fill` would copy the slots for each range.
+        slots.starts[i] = l.starts[i];
+        slots.ends[i] = l.ends[i];
+        slots.used[i] = true;
         i += 1;
     }
     slots
