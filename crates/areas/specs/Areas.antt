@@ -11,11 +11,12 @@ use Rattle.model.specs.declared.Area.{Area}
 use Rattle.model.specs.declared.ByteArea.{ByteArea}
 use Rattle.model.specs.declared.Kind.{Kind}
 use Rattle.model.specs.declared.Kind.the-variants.{General, Reserved}
-use Rattle.carving.specs.Ranges.{listed, Appended}
+use Rattle.carving.specs.Ranges.{listed, rangeListOf, Appended}
 use Rattle.areas.specs.declared.AreaUnit.{AreaUnit}
 use Rattle.areas.specs.declared.AreaUnit.the-variants.{Frames, Bytes}
 use Rattle.areas.specs.declared.BootArea.{BootArea}
 use Rattle.areas.specs.declared.Collected.{Collected}
+use Rattle.areas.specs.declared.Seen.{Seen}
 
 -- "kind (general or reserved)", as a word: 0 is general, any other number reserved
 unfoldable pub kindOfWord : ℕ → Kind
@@ -87,6 +88,10 @@ pub record CollectedOf (xs : List BootArea) (c : Collected) : Type 0 where
   pub reserved-are : c .reserved ≡ listed (reservedIn xs)
   pub empty-is : c .«any_empty» ≡ anyOf isEmpty (reservedIn xs)
   pub outside-is : c .«any_outside» ≡ anyOutside xs
+
+-- what is collected, where the arrays of the reserved areas are lent
+abbrev pub gathered : List ℕ → List ℕ → Seen → Collected
+gathered ss es s = record { reserved = rangeListOf ss es (s .reserved); «any_empty» = s .«any_empty»; «any_outside» = s .«any_outside» }
 
 -- and of one area more
 pub record OneAreaMore (before : Collected) (a : BootArea) (after : Collected) : Type 0 where

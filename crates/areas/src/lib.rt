@@ -34,17 +34,32 @@ pub struct Collected {
     pub any_outside: bool,
 }
 
+// The same while areas are collected, without the arrays of the reserved areas: those are lent, so that an area copies none.
+// `reserved` is how many there are, 33 where they are more than 32.
+pub struct Seen {
+    pub reserved: usize,
+    pub any_empty: bool,
+    pub any_outside: bool,
+}
+
 // Reads the whole list once, however long it is and however the kinds are mixed.
 pub fn collect(areas: &[u64], unit: AreaUnit) -> Collected
     ensures { λ r. ⌜ CollectedOf (spec.read unit (now (areas .entry))) r ⌝ }
 {
-    let mut c = nothing_collected();
+    let none = carving::no_ranges();
+    let mut starts = none.starts;
+    let mut ends = none.ends;
+    let mut seen = Seen {
+        reserved: none.len,
+        any_empty: false,
+        any_outside: false,
+    };
     let mut i = 0;
     while 3 <= areas.len() - i {
-        c = collect_area(c, area_at(areas, i, unit));
+        seen = collect_at(&mut starts, &mut ends, seen, area_at(areas, i, unit));
         i += 3;
     }
-    c
+    gathered(starts, ends, seen)
 }
 
 // The pieces of each general area, in the given order.
@@ -52,14 +67,25 @@ pub fn carve(areas: &[u64], unit: AreaUnit, reserved: RangeList) -> RangeList
     requires { ⌜ Carvable reserved ⌝ }
     ensures { λ r. ⌜ r ≡ listed (spec.piecesIn (rangesIn reserved) (spec.read unit (now (areas .entry)))) ⌝ }
 {
-    let mut pieces = carving::no_ranges();
+    let none = carving::no_ranges();
+    let mut starts = none.starts;
+    let mut ends = none.ends;
+    let mut len = none.len;
     let mut i = 0;
     while 3 <= areas.len() - i {
         let area = area_at(areas, i, unit);
-        pieces = carve_area(area, &reserved.starts, &reserved.ends, reserved.len, pieces);
+        len = carve_at(
+            area,
+            &reserved.starts,
+            &reserved.ends,
+            reserved.len,
+            &mut starts,
+            &mut ends,
+            len,
+        );
         i += 3;
     }
-    pieces
+    RangeList { starts, ends, len }
 }
 
 pub fn nothing_collected() -> Collected
@@ -76,26 +102,54 @@ pub fn nothing_collected() -> Collected
 pub fn collect_area(c: Collected, area: BootArea) -> Collected
     ensures { λ r. ⌜ OneAreaMore c area r ⌝ }
 {
-    let any_outside = c.any_outside || area.outside;
+    let reserved = c.reserved;
+    let mut starts = reserved.starts;
+    let mut ends = reserved.ends;
+    let before = Seen {
+        reserved: reserved.len,
+        any_empty: c.any_empty,
+        any_outside: c.any_outside,
+    };
+    let seen = collect_at(&mut starts, &mut ends, before, area);
+    gathered(starts, ends, seen)
+}
+
+// One area more, where the arrays of the reserved areas are lent.
+fn collect_at(starts: &mut [u64; 32], ends: &mut [u64; 32], seen: Seen, area: BootArea) -> Seen
+    ensures { λ r. ⌜ OneAreaMore (spec.gathered (now (starts .entry)) (now (ends .entry)) seen) area (spec.gathered (now (starts .exit)) (now (ends .exit)) r) ⌝ }
+{
+    let any_outside = seen.any_outside || area.outside;
     let kind = area.kind;
     match kind {
-        Kind::General => {
-            let reserved = c.reserved;
-            Collected {
-                reserved,
-                any_empty: c.any_empty,
-                any_outside,
-            }
-        }
+        Kind::General => Seen {
+            reserved: seen.reserved,
+            any_empty: seen.any_empty,
+            any_outside,
+        },
         Kind::Reserved => {
-            let reserved = carving::push(c.reserved, area.start, area.end);
-            let any_empty = c.any_empty || area.end < area.start;
-            Collected {
+            let reserved = carving::push_at(starts, ends, seen.reserved, area.start, area.end);
+            let any_empty = seen.any_empty || area.end < area.start;
+            Seen {
                 reserved,
                 any_empty,
                 any_outside,
             }
         }
+    }
+}
+
+fn gathered(starts: [u64; 32], ends: [u64; 32], seen: Seen) -> Collected
+    ensures { λ r. ⌜ r ≡ spec.gathered starts ends seen ⌝ }
+{
+    let reserved = RangeList {
+        starts,
+        ends,
+        len: seen.reserved,
+    };
+    Collected {
+        reserved,
+        any_empty: seen.any_empty,
+        any_outside: seen.any_outside,
     }
 }
 
@@ -110,9 +164,50 @@ pub fn carve_area<'a>(
     requires { ⌜ Carvable (rangeListOf (now starts) (now ends) len) ⌝ }
     ensures { λ r. ⌜ Appended pieces (spec.piecesIn (rangesIn (rangeListOf (now (starts .entry)) (now (ends .entry)) len)) (area ∷ [])) r ⌝ }
 {
+    let mut piece_starts = pieces.starts;
+    let mut piece_ends = pieces.ends;
+    let count = carve_at(
+        area,
+        starts,
+        ends,
+        len,
+        &mut piece_starts,
+        &mut piece_ends,
+        pieces.len,
+    );
+    RangeList {
+        starts: piece_starts,
+        ends: piece_ends,
+        len: count,
+    }
+}
+
+// The pieces of one area, where the arrays of the pieces are lent. The answer is how many pieces there are now.
+fn carve_at<'a>(
+    area: BootArea,
+    starts: &'a [u64; 32],
+    ends: &'a [u64; 32],
+    len: usize,
+    piece_starts: &mut [u64; 32],
+    piece_ends: &mut [u64; 32],
+    pieces: usize,
+) -> usize
+    requires { ⌜ (length (now starts) ≡ 32) × (length (now ends) ≡ 32) ⌝ }
+    requires { ⌜ Carvable (rangeListOf (now starts) (now ends) len) ⌝ }
+    ensures { λ r. ⌜ Appended (rangeListOf (now («piece_starts» .entry)) (now («piece_ends» .entry)) pieces) (spec.piecesIn (rangesIn (rangeListOf (now (starts .entry)) (now (ends .entry)) len)) (area ∷ [])) (rangeListOf (now («piece_starts» .exit)) (now («piece_ends» .exit)) r) ⌝ }
+{
     let kind = area.kind;
     match kind {
-        Kind::General => check_and_add_free_region(starts, ends, len, area.start, area.end, pieces),
+        Kind::General => check_and_add_free_region(
+            starts,
+            ends,
+            len,
+            area.start,
+            area.end,
+            piece_starts,
+            piece_ends,
+            pieces,
+        ),
         Kind::Reserved => pieces,
     }
 }

@@ -25,29 +25,39 @@ pub fn no_ranges() -> RangeList
     }
 }
 
-// The range goes in at the end; the 33rd is counted and not stored.
-pub fn push(mut l: RangeList, start: u64, end: u64) -> RangeList
-    ensures { λ r. ⌜ Appended l (range.range start end ∷ []) r ⌝ }
+// The range goes in at the end; the 33rd is counted and not stored. The arrays are lent, since copies of them cost more than the rest of
+// a push. The answer is the list's new `len`.
+pub fn push_at(
+    starts: &mut [u64; 32],
+    ends: &mut [u64; 32],
+    len: usize,
+    start: u64,
+    end: u64,
+) -> usize
+    ensures { λ r. ⌜ Appended (rangeListOf (now (starts .entry)) (now (ends .entry)) len) (range.range start end ∷ []) (rangeListOf (now (starts .exit)) (now (ends .exit)) r) ⌝ }
 {
-    let i = l.len;
-    if i < 32 {
-        l.starts[i] = start;
-        l.ends[i] = end;
-        l.len = i + 1;
-        return l;
+    if 32 <= len {
+        return 33;
     }
-    l.len = 33;
-    l
+    starts[len] = start;
+    ends[len] = end;
+    len + 1
 }
 
 // A piece goes in where it has a frame.
-fn push_piece(pieces: RangeList, start: u64, end: u64) -> RangeList
-    ensures { λ r. ⌜ Appended pieces (model.piece start end) r ⌝ }
+fn push_piece(
+    starts: &mut [u64; 32],
+    ends: &mut [u64; 32],
+    len: usize,
+    start: u64,
+    end: u64,
+) -> usize
+    ensures { λ r. ⌜ Appended (rangeListOf (now (starts .entry)) (now (ends .entry)) len) (model.piece start end) (rangeListOf (now (starts .exit)) (now (ends .exit)) r) ⌝ }
 {
     if end < start {
-        return pieces;
+        return len;
     }
-    push(pieces, start, end)
+    push_at(starts, ends, len, start, end)
 }
 
 // The frame, or the first one past the reserved area that holds it.
@@ -61,19 +71,21 @@ fn past(reserved_start: u64, reserved_end: u64, frame: u64) -> u64
     frame
 }
 
-// The pieces of the area from start to end that are not reserved: those above before those below. The reserved areas are lent, since
-// there may be 33 calls at a time, one in another.
+// The pieces of the area from start to end that are not reserved: those above before those below. The reserved areas and the pieces are
+// lent, since there may be 33 calls at a time, one in another. The answer is how many pieces there are now.
 pub fn check_and_add_free_region<'a>(
     starts: &'a [u64; 32],
     ends: &'a [u64; 32],
     len: usize,
     start: u64,
     end: u64,
-    mut pieces: RangeList,
-) -> RangeList
+    piece_starts: &mut [u64; 32],
+    piece_ends: &mut [u64; 32],
+    mut pieces: usize,
+) -> usize
     requires { ⌜ (length (now starts) ≡ 32) × (length (now ends) ≡ 32) ⌝ }
     requires { ⌜ Carvable (rangeListOf (now starts) (now ends) len) ⌝ }
-    ensures { λ r. ⌜ Appended pieces (model.pieces (rangesIn (rangeListOf (now (starts .entry)) (now (ends .entry)) len)) (range.range start end)) r ⌝ }
+    ensures { λ r. ⌜ Appended (rangeListOf (now («piece_starts» .entry)) (now («piece_ends» .entry)) pieces) (model.pieces (rangesIn (rangeListOf (now (starts .entry)) (now (ends .entry)) len)) (range.range start end)) (rangeListOf (now («piece_starts» .exit)) (now («piece_ends» .exit)) r) ⌝ }
 {
     let mut current_start = start;
     let mut current_end = end;
@@ -87,7 +99,7 @@ pub fn check_and_add_free_region<'a>(
             if first <= current_end {
                 if current_end <= last {
                     // The rest of the area is reserved.
-                    return push_piece(pieces, current_start, first - 1);
+                    return push_piece(piece_starts, piece_ends, pieces, current_start, first - 1);
                 }
                 pieces = check_and_add_free_region(
                     starts,
@@ -95,11 +107,13 @@ pub fn check_and_add_free_region<'a>(
                     len,
                     last + 1,
                     current_end,
+                    piece_starts,
+                    piece_ends,
                     pieces,
                 );
                 current_end = first - 1;
             }
         }
     }
-    push_piece(pieces, current_start, current_end)
+    push_piece(piece_starts, piece_ends, pieces, current_start, current_end)
 }

@@ -1,34 +1,16 @@
--- `collect_area`: by its kind; a general area changes only whether one is outside.
-use mathlib.Core.Path.{_≡_, refl}
-use mathlib.Core.Bool.{_||_}
-use mathlib.Core.Logic.{⊎-elim}
+-- `collect_area`: as `collect_at`, with the list taken apart and put together.
 use borrow.Author.Needs.{needs}
-use Rattle.areas.proofs.Steps.{with-first, with-second, adds-general, adds-reserved}
 use Rattle.areas.proofs.collect_area.Statement.{statement}
 use Rattle.areas.proofs.collect_area.Tie as tie
 
--- whether one of the areas so far is outside
-outside : (c : tie.Joined1) → c .if1 .any-outside ≡ (c .before .args .c .«any_outside» || c .before .args .area .outside)
-outside c = ⊎-elim (λ w. with-first _ _ _ (w .0 .taken) (w .1)) (λ w. with-second _ _ _ (w .0 .left) (w .1)) (c .if1 .came)
+collect-at-requires : tie.Need-collect-at-requires
+collect-at-requires c κs = search needs
 
-enum-told : tie.Need-enum-told
-enum-told c = search needs
-
-enum-told-2 : tie.Need-enum-told-2
-enum-told-2 c = search needs
-
-push-requires : tie.Need-push-requires
-push-requires c κs = search needs
+gathered-requires : tie.Need-gathered-requires
+gathered-requires c κs = search needs
 
 returns : tie.Need-returns
-returns c = adds-general _ _ _ (outside (c .before .before .before)) (c .before .enum-told .given .1) refl refl
-
-returns-2 : tie.Need-returns-2
-returns-2 c = adds-reserved _ _ _ (outside (c .before .before .before .before)) (c .before .before .enum-told2 .given .1) (c .before .push .ensures) (with-first _ _ _ (c .if2 .taken) refl)
-
-returns-3 : tie.Need-returns-3
-returns-3 c = adds-reserved _ _ _ (outside (c .before .before .before .before .before)) (c .before .before .before .enum-told2 .given .1) (c .before .before .push .ensures) (with-second _ _ _ (c .before .if2 .left) refl)
+returns c = rw (c .gathered .ensures) (c .before .collect-at .ensures)
 
 pub collect-area-spec : {M : Type 1} → statement M
-collect-area-spec =
-    tie.close (tie.spec enum-told enum-told-2 push-requires returns returns-2 returns-3)
+collect-area-spec = tie.close (tie.spec collect-at-requires gathered-requires returns)

@@ -17,31 +17,31 @@ use Rattle.carving.proofs.push_piece.Reads as push-piece-reads
 use Rattle.carving.proofs.+check_and_add_free_region.{statement}
 use Rattle.carving.proofs.+check_and_add_free_region.Tie.{close}
 
-abbrev μ : Measures 1 kinds.ps ℕ
+abbrev μ : Measures 3 kinds.ps ℕ
 μ κs a = (a .1 .1 .1 .1 .0 + 1) - a .1 .1 .1 .0
 
-abbrev given : ℕ → In 1 kinds.ps
+abbrev given : ℕ → In 3 kinds.ps
 given t =
     and
-    1
+    3
     kinds.ps
-    (is 1 kinds.ps μ t)
+    (is 3 kinds.ps μ t)
     reads.Pre
 
-abbrev asked : ℕ → In 1 kinds.ps
+abbrev asked : ℕ → In 3 kinds.ps
 asked t =
     and
-    1
+    3
     kinds.ps
-    (falls 1 kinds.ps _<_ μ t)
+    (falls 3 kinds.ps _<_ μ t)
     reads.Pre
 
 abbrev Inv-loop : lts.InvT-loop
-Inv-loop starts ends len start end pieces₀ current-start₀ current-end₀ i₀ pieces current-start current-end i =
-    Turn (rangeListOf starts ends len) start end pieces₀ pieces current-start current-end i
+Inv-loop starts ends len start end piece-starts₀ piece-ends₀ pieces₀ current-start₀ current-end₀ i₀ piece-starts piece-ends pieces current-start current-end i =
+    Turn (rangeListOf starts ends len) start end (rangeListOf piece-starts₀ piece-ends₀ pieces₀) (rangeListOf piece-starts piece-ends pieces) current-start current-end i
 
 abbrev μ-loop : lts.MeasureT-loop
-μ-loop starts ends len start end pieces₀ current-start₀ current-end₀ i₀ pieces current-start current-end i =
+μ-loop starts ends len start end piece-starts₀ piece-ends₀ pieces₀ current-start₀ current-end₀ i₀ piece-starts piece-ends pieces current-start current-end i =
     len - i
 
 loop-holds : (t : ℕ) → lts.Need-loop-holds (
@@ -57,7 +57,7 @@ loop-holds : (t : ℕ) → lts.Need-loop-holds (
     Inv-loop
     μ-loop
 loop-holds t c =
-    turn-start _ (c .pre .1 .0) (c .pre .1 .1) (c .args .start) (c .args .end) (c .args .pieces)
+    turn-start _ (c .pre .1 .0) (c .pre .1 .1) (c .args .start) (c .args .end) _
 
 mul-first : (t : ℕ) → lts.Need-mul-first (
   past-reads.Asked,
@@ -163,9 +163,9 @@ sub-push-piece :
     Inv-loop
     μ-loop
 sub-push-piece t c =
-    let k = c .before .before .before .before .before .before .before in
+    let k = c .before .before .before .before .before .before .before .before .before in
     let s = k .before in
-    omega (arith, c .before .before .before .past .ensures, starts-above _ (s .pre .1 .0) (s .pre .1 .1) _ _ _ _ _ _ _ (k .loop .inv) (omega arith) (omega (arith, c .before .before .before .past .ensures)) (omega arith))
+    omega (arith, c .before .before .before .before .before .past .ensures, starts-above _ (s .pre .1 .0) (s .pre .1 .1) _ _ _ _ _ _ _ (k .loop .inv) (omega arith) (omega (arith, c .before .before .before .before .before .past .ensures)) (omega arith))
 
 push-piece-requires :
     (t : ℕ) → lts.Need-push-piece-requires (
@@ -195,9 +195,9 @@ returns : (t : ℕ) → lts.Need-returns (
     Inv-loop
     μ-loop
 returns t c =
-    let k = c .before .before .before .before .before .before .before .before in
+    let k = c .before .before .before .before .before .before .before .before .before .before in
     let s = k .before in
-    carved-stop _ (s .pre .1 .0) (s .pre .1 .1) _ _ _ _ _ _ _ (k .loop .inv) (omega arith) (omega (arith, c .before .before .before .before .past .ensures)) (omega arith) (omega arith) _ (rw (← c .before .before .before .before .past .ensures) (c .push-piece .ensures))
+    carved-stop _ (s .pre .1 .0) (s .pre .1 .1) _ _ _ _ _ _ _ (k .loop .inv) (omega arith) (omega (arith, c .before .before .before .before .before .before .past .ensures)) (omega arith) (omega arith) _ (rw (← c .before .before .before .before .before .before .past .ensures) (c .push-piece .ensures))
 
 add-above :
     (t : ℕ) → lts.Need-add-check-and-add-free-region (
@@ -231,9 +231,9 @@ again-requires :
     Inv-loop
     μ-loop
 again-requires t c κs =
-    let k = c .before .before .before .before .before .before .before in
+    let k = c .before .before .before .before .before .before .before .before .before in
     let s = k .before in
-    (omega (arith, s .pre .0, k .loop .inv .low, k .loop .inv .high, c .before .before .before .past .ensures, past-from (range (getD (s .args .starts .now) (k .loop .i) 0) (getD (s .args .ends .now) (k .loop .i) 0)) (k .loop .current-start), area-filled _ (s .pre .1 .0) (s .pre .1 .1) (k .loop .i) (omega arith)), s .pre .1)
+    (omega (arith, s .pre .0, k .loop .inv .low, k .loop .inv .high, c .before .before .before .before .before .past .ensures, past-from (range (getD (s .args .starts .now) (k .loop .i) 0) (getD (s .args .ends .now) (k .loop .i) 0)) (k .loop .current-start), area-filled _ (s .pre .1 .0) (s .pre .1 .1) (k .loop .i) (omega arith)), s .pre .1)
 
 sub-current-end :
     (t : ℕ) → lts.Need-sub-current-end (
@@ -249,9 +249,9 @@ sub-current-end :
     Inv-loop
     μ-loop
 sub-current-end t c =
-    let k = c .before .before .before .before .before .before .before .before in
+    let k = c .before .before .before .before .before .before .before .before .before .before in
     let s = k .before in
-    omega (arith, c .before .before .before .before .past .ensures, starts-above _ (s .pre .1 .0) (s .pre .1 .1) _ _ _ _ _ _ _ (k .loop .inv) (omega arith) (omega (arith, c .before .before .before .before .past .ensures)) (omega arith))
+    omega (arith, c .before .before .before .before .before .before .past .ensures, starts-above _ (s .pre .1 .0) (s .pre .1 .1) _ _ _ _ _ _ _ (k .loop .inv) (omega arith) (omega (arith, c .before .before .before .before .before .before .past .ensures)) (omega arith))
 
 loop-less : (t : ℕ) → lts.Need-loop-less (
   past-reads.Asked,
@@ -280,9 +280,9 @@ loop-again : (t : ℕ) → lts.Need-loop-again (
     Inv-loop
     μ-loop
 loop-again t c =
-    let k = c .before .before .before .before .before .before .before .before in
+    let k = c .before .before .before .before .before .before .before .before .before .before in
     let s = k .before in
-    rw (c .before .before .before .before .past .ensures) (part-above _ (s .pre .1 .0) (s .pre .1 .1) _ _ _ _ _ _ _ (k .loop .inv) (omega arith) (omega (arith, c .before .before .before .before .past .ensures)) (omega arith) (omega arith) _ (c .check-and-add-free-region .ensures))
+    rw (c .before .before .before .before .before .before .past .ensures) (part-above _ (s .pre .1 .0) (s .pre .1 .1) _ _ _ _ _ _ _ (k .loop .inv) (omega arith) (omega (arith, c .before .before .before .before .before .before .past .ensures)) (omega arith) (omega arith) _ (c .check-and-add-free-region .ensures))
 
 loop-less-2 : (t : ℕ) → lts.Need-loop-less-2 (
   past-reads.Asked,
@@ -374,7 +374,7 @@ returns-2 : (t : ℕ) → lts.Need-returns-2 (
     Inv-loop
     μ-loop
 returns-2 t c =
-    let k = c .before .before in
+    let k = c .before .before .before .before in
     let s = k .before in
     carved-end _ (s .pre .1 .0) (s .pre .1 .1) _ _ _ _ _ _ _ (k .loop .inv) (omega arith) _ (c .push-piece2 .ensures)
 
