@@ -9,11 +9,11 @@ use lib.ListN.{length}
 use borrow.Author.Tests.{ne-eqb, eqb-true, eqb-false}
 use Rattle.memory_structs.specs.Choice.{if_then_else_}
 use Rattle.memory_structs.specs.Range.{aboveTop}
-use Rattle.model.specs.Lists.{Lists, entries, anyOf}
+use Rattle.model.specs.Lists.{Lists, Slot, entries, anyOf}
 use Rattle.model.specs.Boot as model
 use Rattle.model.specs.Boot.{booted}
 use Rattle.model.specs.Requests.{Result, refused, counted, withoutFrames}
-use Rattle.model.specs.Store.{load, recordOf}
+use Rattle.model.specs.Store.{load, recordOf, slotsOf, part}
 use Rattle.model.specs.Calls.{Call, bootCall, bootBytesCall, Gives, answer, boot, noEntries, shortBuffer}
 use Rattle.model.specs.declared.Area.{Area}
 use Rattle.model.specs.declared.ByteArea.{ByteArea}
@@ -23,8 +23,13 @@ use Rattle.model.proofs.Boots.{bytes-below}
 use Rattle.model.proofs.Whole.{early-words}
 use Rattle.lists.specs.declared.record.WhichList.{WhichList}
 use Rattle.lists.specs.declared.record.WhichList.the-variants.{GeneralFree, ReservedFree, GeneralRegions, ReservedRegions}
-use Rattle.lists.specs.Record.{slotsAt}
-use Rattle.rules.specs.Check.{checked, refusedWith, acceptedWith}
+use Rattle.early.specs.Slots.{IsEarly}
+use Rattle.lists.specs.One.{IsList}
+use Rattle.lists.specs.Record.{slotsAt, listOf, partOf}
+use Rattle.lists.proofs.One.{as-early, sorted-count, at-early}
+use Rattle.lists.proofs.Whole.{loaded, same-form, is-list}
+use Rattle.rules.specs.Check.{checked, refusedWith, acceptedWith, Ruled}
+use Rattle.rules.proofs.Going.{stores}
 use Rattle.rules.proofs.Numbers.{gives-refused, gives-stored, gives-unchanged}
 use Rattle.areas.specs.declared.AreaUnit.{AreaUnit}
 use Rattle.areas.specs.declared.AreaUnit.the-variants.{Frames, Bytes}
@@ -33,8 +38,25 @@ use Rattle.carving.specs.Ranges.{rangesIn}
 use Rattle.areas.specs.Areas.{areasIn, byteAreasIn, bootAreas, bootByteAreas, read, extents, anyOutside}
 use Rattle.areas.proofs.Read.{frames-taken, bytes-taken, words-frames, words-bytes}
 use Rattle.boot.specs.declared.Survey.{Survey}
-use Rattle.boot.specs.Boots.{refusalOf, finished, mayBoot, bootedWith, Surveys}
+use Rattle.boot.specs.Boots.{bootCallOf, refusalOf, finished, mayBoot, bootedWith, Surveys}
 use Rattle.boot.proofs.Numbers.{bootedFrom, Bounded, survey-boots}
+
+-- how many entries a list has: in sorted form the record keeps their number, in early form its slots have them
+module _ (a : FrameAllocator) (ws : List ℕ) (u : Ruled a ws) (w : WhichList) where
+  the-list : IsList (listOf w a) (part (partOf w) ws)
+  the-list = is-list a ws (u .long) (stores a ws u) w
+
+  pub table-entries : a .sorted ≡ true → listOf w a .len ≡ length (entries (slotsAt w (load a ws)))
+  table-entries e =
+      sym (sorted-count (listOf w a) (part (partOf w) ws) the-list (same-form w a ∙ e)) ∙ ap (λ (s : List Slot). length (entries s)) (loaded w a ws)
+
+  module _ (e : a .sorted ≡ false) where
+    pub early-slots : IsEarly (listOf w a .early)
+    early-slots = as-early (listOf w a) (part (partOf w) ws) the-list (same-form w a ∙ e)
+
+    pub slot-entries : length (entries (slotsOf (listOf w a .early))) ≡ length (entries (slotsAt w (load a ws)))
+    slot-entries =
+        sym (at-early (λ b s. length (entries s)) (listOf w a) (part (partOf w) ws) (same-form w a ∙ e)) ∙ ap (λ (s : List Slot). length (entries s)) (loaded w a ws)
 
 -- no entries: the four counts come to 0
 pub entries-counted : (l : Lists) {m n o p : ℕ} → m ≡ length (entries (slotsAt GeneralFree l)) → n ≡ length (entries (slotsAt ReservedFree l)) → o ≡ length (entries (slotsAt GeneralRegions l)) → p ≡ length (entries (slotsAt ReservedRegions l)) → not (eqb (m + n + o + p) 0) ≡ not (noEntries l)
@@ -153,6 +175,11 @@ frame-words-boot ws = subst (IsBoot (bootCall (areasIn ws))) (sym (words-frames 
 
 pub byte-words-boot : (ws : List ℕ) → IsBoot (bootBytesCall (byteAreasIn ws)) (read Bytes ws)
 byte-words-boot ws = subst (IsBoot (bootBytesCall (byteAreasIn ws))) (sym (words-bytes ws)) (bytes-boot (byteAreasIn ws))
+
+pub words-boot : (u : AreaUnit) (ws : List ℕ) → IsBoot (bootCallOf u ws) (read u ws)
+unfolding bootCallOf
+words-boot Frames ws = frame-words-boot ws
+words-boot Bytes ws = byte-words-boot ws
 
 pub words-bounded : (u : AreaUnit) (ws : List ℕ) → Bounded (read u ws)
 words-bounded Frames ws = subst (λ (xs : List BootArea). Bounded xs) (sym (words-frames ws)) (frames-bounded (areasIn ws))

@@ -7,18 +7,25 @@ use Rattle.memory_structs.specs.Choice.{if_then_else_}
 use Rattle.memory_structs.specs.declared.range.FrameRange.{FrameRange}
 use Rattle.model.specs.Lists.{disjoint}
 use Rattle.model.specs.Boot as model
-use Rattle.model.specs.Calls.{noEntries}
+use Rattle.model.specs.Calls.{Call, bootCall, bootBytesCall, noEntries}
 use Rattle.model.specs.Store.{load}
 use Rattle.model.specs.declared.Called.{Called}
 use Rattle.model.specs.declared.FrameAllocator.{FrameAllocator}
 use Rattle.rules.specs.Check.{checked, refusedWith, acceptedWith}
 use Rattle.carving.specs.declared.RangeList.{RangeList}
 use Rattle.carving.specs.Ranges.{listed, rangesIn, Carvable, Counted, Whole}
+use Rattle.areas.specs.declared.AreaUnit.{AreaUnit}
+use Rattle.areas.specs.declared.AreaUnit.the-variants.{Frames, Bytes}
 use Rattle.areas.specs.declared.BootArea.{BootArea}
 use Rattle.areas.specs.declared.Collected.{Collected}
-use Rattle.areas.specs.Areas.{reservedIn, piecesIn, CollectedOf}
+use Rattle.areas.specs.Areas.{areasIn, byteAreasIn, reservedIn, piecesIn, CollectedOf}
 use Rattle.boot.specs.declared.Survey.{Survey}
 use Rattle.filling.specs.Filled.{filledRecord}
+
+-- a boot of areas as words: "start, end and kind", or "start address, byte size and kind"
+unfoldable pub bootCallOf : AreaUnit → List ℕ → Call
+bootCallOf Frames ws = bootCall (areasIn ws)
+bootCallOf Bytes ws = bootBytesCall (byteAreasIn ws)
 
 -- "Order: 3, 11; boot then 10"
 unfoldable pub mayBoot : FrameAllocator → List ℕ → ℕ

@@ -11,7 +11,6 @@ ghost use Rattle.boot.specs.Boots.{Sound, CarvedOut, Surveys, Finishable
 use areas::AreaUnit;
 use areas::Collected;
 use carving::RangeList;
-use lists::WhichList;
 use model::Called;
 use model::FrameAllocator;
 
@@ -37,6 +36,14 @@ pub fn init_from_bytes(a: FrameAllocator, areas: &[u64], words: &[u64]) -> Calle
     boot_surveyed(a, survey_words(areas, AreaUnit::Bytes), words)
 }
 
+// The boot of either, of a record that keeps the rules.
+pub fn boot_words(a: FrameAllocator, areas: &[u64], unit: AreaUnit, words: &[u64]) -> Called
+    requires { ⌜ Ruled a (now words) ⌝ }
+    ensures { λ r. ⌜ Gives (spec.bootCallOf unit (now (areas .entry))) a (now (words .entry)) r (now (words .entry)) ⌝ }
+{
+    boot_ruled(a, survey_words(areas, unit), words)
+}
+
 fn survey_words(areas: &[u64], unit: AreaUnit) -> Survey
     ensures { λ r. ⌜ Surveys (read unit (now (areas .entry))) r ⌝ }
 {
@@ -56,14 +63,26 @@ pub fn carvable(c: Collected) -> RangeList
     c.reserved
 }
 
-// 3, 11 and 10; then 5, 4 and 2; then 7 and 6, or the record with its lists filled.
+// 3 and 11; then as a record that keeps the rules is booted.
 pub fn boot_surveyed(a: FrameAllocator, s: Survey, words: &[u64]) -> Called
     requires { ⌜ Finishable s ⌝ }
     ensures { λ r. ⌜ r ≡ spec.bootedWith s a (now (words .entry)) ⌝ }
 {
-    let number = may_boot(a, words);
-    if number != 0 {
-        return rules::refused(a, number);
+    let broken = rules::check(a, words);
+    if broken != 0 {
+        return rules::refused(a, broken);
+    }
+    boot_ruled(a, s, words)
+}
+
+// 10; then 5, 4 and 2; then 7 and 6, or the record with its lists filled.
+fn boot_ruled(a: FrameAllocator, s: Survey, words: &[u64]) -> Called
+    requires { ⌜ Ruled a (now words) ⌝ }
+    requires { ⌜ Finishable s ⌝ }
+    ensures { λ r. ⌜ r ≡ spec.bootedWith s a (now (words .entry)) ⌝ }
+{
+    if has_entries(a, words) {
+        return rules::refused(a, 10);
     }
     let collected = s.collected;
     let number = refusal(collected);
@@ -73,25 +92,19 @@ pub fn boot_surveyed(a: FrameAllocator, s: Survey, words: &[u64]) -> Called
     finish(a, s.pieces, collected.reserved)
 }
 
-// 3, 11, and 10: "boot, and any list is not empty".
-fn may_boot(a: FrameAllocator, words: &[u64]) -> u64
-    ensures { λ r. ⌜ r ≡ spec.mayBoot a (now (words .entry)) ⌝ }
-{
-    let number = rules::check(a, words);
-    if number != 0 {
-        return number;
-    }
-    if has_entries(a, words) { 10 } else { 0 }
-}
-
+// 10: "boot, and any list is not empty". In sorted form the record keeps how many entries there are.
 fn has_entries(a: FrameAllocator, words: &[u64]) -> bool
     requires { ⌜ Ruled a (now words) ⌝ }
     ensures { λ r. ⌜ r ≡ not (noEntries (load a (now (words .entry)))) ⌝ }
 {
-    let general_chunks = parts::count(a, words, WhichList::GeneralFree);
-    let reserved_chunks = parts::count(a, words, WhichList::ReservedFree);
-    let general_regions = parts::count(a, words, WhichList::GeneralRegions);
-    let reserved_regions = parts::count(a, words, WhichList::ReservedRegions);
+    if a.sorted {
+        let chunks = a.general_free_len + a.reserved_free_len;
+        return chunks + a.general_regions_len + a.reserved_regions_len != 0;
+    }
+    let general_chunks = early::count(a.general_free);
+    let reserved_chunks = early::count(a.reserved_free);
+    let general_regions = early::count(a.general_regions);
+    let reserved_regions = early::count(a.reserved_regions);
     general_chunks + reserved_chunks + general_regions + reserved_regions != 0
 }
 

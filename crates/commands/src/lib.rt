@@ -4,13 +4,14 @@ ghost use mathlib.Core.Bool.{true};
 ghost use mathlib.Core.List.{List};
 ghost use Prim.Native.Nat.{ℕ};
 ghost use lib.ListN.{length};
-ghost use Rattle.model.specs.Calls.{bootCall, bootBytesCall, Gives};
-ghost use Rattle.rules.specs.Check.{checked, answeredWith};
-ghost use Rattle.areas.specs.Areas.{areasIn, byteAreasIn};
+ghost use Rattle.model.specs.Calls.{Gives};
+ghost use Rattle.rules.specs.Check.{checked, answeredWith, Ruled};
+ghost use Rattle.boot.specs.Boots.{bootCallOf};
 ghost use Rattle.commands.specs.Commands as spec;
 ghost use Rattle.commands.specs.Commands.{InList, areasAt, callIn};
 ghost use Rattle.lengths.specs.Tables.{tabled};
-ghost use Rattle.commands.specs.Made.{numberFor, Goes, Made, TriedMade};
+ghost use Rattle.commands.specs.Made.{numberFor, Goes, Made, TriedListed, TriedMade};
+use areas::AreaUnit;
 use lengths::Lengths;
 use lengths::Tried;
 use memory_structs::FrameRange;
@@ -100,7 +101,7 @@ fn are_listed(areas_len: usize, first: u64, count: u64) -> bool
 }
 
 // Makes the call. The number is the test's, made before; where it is 0 the call goes on, and keeps the rules (`test-lasts`,
-// rules/proofs/Lasting). Only boots and sorts, which are rare, test again.
+// rules/proofs/Lasting).
 pub fn make_call(
     a: FrameAllocator,
     words: &mut [u64],
@@ -133,9 +134,13 @@ fn go_on(
     ensures { λ r. ⌜ Made (callIn (now (areas .entry)) (length (now (held .entry))) command) a (now (words .entry)) (now (held .entry)) r (now (words .exit)) (now (held .exit)) ⌝ }
 {
     match command {
-        RunCall::Boot(first, count) => boot_frames(a, words, areas, first, count),
-        RunCall::BootBytes(first, count) => boot_bytes(a, words, areas, first, count),
-        RunCall::Sort => sort::convert_frame_allocator_to_heap_based(a, words),
+        RunCall::Boot(first, count) => {
+            boot_listed(a, words, areas, AreaUnit::Frames, first, count)
+        }
+        RunCall::BootBytes(first, count) => {
+            boot_listed(a, words, areas, AreaUnit::Bytes, first, count)
+        }
+        RunCall::Sort => sort::sort_record(a, words),
         RunCall::Allocate(request) => requests::meet_request(a, words, request),
         RunCall::Return(range) => returns::give_back(a, words, range),
         RunCall::KindOf(range) => answered(a, lookups::kind(a, words, range)),
@@ -157,28 +162,22 @@ fn number_for(command: RunCall, number: u64, buffer_len: usize) -> u64
     number
 }
 
-fn boot_frames(
+// A boot of so many areas of the list, from this one on.
+fn boot_listed(
     a: FrameAllocator,
     words: &[u64],
     areas: &[u64],
+    unit: AreaUnit,
     first: usize,
     count: usize,
 ) -> Called
+    requires { ⌜ Ruled a (now words) ⌝ }
     requires { ⌜ spec.areListed (length (now areas)) first count ≡ true ⌝ }
-    ensures { λ r. ⌜ Gives (bootCall (areasIn (areasAt first count (now (areas .entry))))) a (now (words .entry)) r (now (words .entry)) ⌝ }
+    ensures { λ r. ⌜ Gives (bootCallOf unit (areasAt first count (now (areas .entry)))) a (now (words .entry)) r (now (words .entry)) ⌝ }
 {
     let from = 3 * first;
     let to = from + 3 * count;
-    boot::init(a, &areas[from..to], words)
-}
-
-fn boot_bytes(a: FrameAllocator, words: &[u64], areas: &[u64], first: usize, count: usize) -> Called
-    requires { ⌜ spec.areListed (length (now areas)) first count ≡ true ⌝ }
-    ensures { λ r. ⌜ Gives (bootBytesCall (byteAreasIn (areasAt first count (now (areas .entry))))) a (now (words .entry)) r (now (words .entry)) ⌝ }
-{
-    let from = 3 * first;
-    let to = from + 3 * count;
-    boot::init_from_bytes(a, &areas[from..to], words)
+    boot::boot_words(a, &areas[from..to], unit, words)
 }
 
 // A question leaves the record as it was.
@@ -191,10 +190,17 @@ fn answered(a: FrameAllocator, answer: Answer) -> Called
     }
 }
 
-// Tries the call on the tables alone: a request or a return, in sorted form, where the test's number is 0.
-pub fn try_call(number: u64, sorted: bool, n: Lengths, words: &mut [u64], command: RunCall) -> Tried
+// Tries the call on the tables alone: a request, a return or a held list, in sorted form, where the test's number is 0.
+pub fn try_call(
+    number: u64,
+    sorted: bool,
+    n: Lengths,
+    words: &mut [u64],
+    held: &mut [u64],
+    command: RunCall,
+) -> Tried
     requires { ⌜ (number ≡ 0 → sorted ≡ true → checked (tabled n) (now words) ≡ 0) ⌝ }
-    ensures { λ r. ⌜ TriedMade number sorted command n (now (words .entry)) r (now (words .exit)) ⌝ }
+    ensures { λ r. ⌜ TriedMade number sorted command n (now (words .entry)) (now (held .entry)) r (now (words .exit)) (now (held .exit)) ⌝ }
 {
     if number != 0 {
         return lengths::not_done(n);
@@ -205,6 +211,23 @@ pub fn try_call(number: u64, sorted: bool, n: Lengths, words: &mut [u64], comman
     match command {
         RunCall::Allocate(request) => requests::meet_in_tables(n, words, request),
         RunCall::Return(range) => returns::give_back_to_tables(n, words, range),
+        RunCall::HeldList => list_held(n, words, held),
         _ => lengths::not_done(n),
+    }
+}
+
+// Not done where the buffer is too short.
+fn list_held(n: Lengths, words: &[u64], held: &mut [u64]) -> Tried
+    requires { ⌜ Ruled (tabled n) (now words) ⌝ }
+    ensures { λ r. ⌜ TriedListed n (now (words .entry)) (now (held .entry)) r (now (held .exit)) ⌝ }
+{
+    if held.len() < 2048 {
+        return lengths::not_done(n);
+    }
+    let answer = held_list::held_in_tables(n, words, held);
+    Tried {
+        done: true,
+        answer,
+        lengths: n,
     }
 }

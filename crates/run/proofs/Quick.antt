@@ -1,6 +1,6 @@
 -- The record of a run is kept in two parts: its slots, and its lengths. Calls that need no slots leave the first part alone.
 use Prim.Native.Nat.{ℕ, _+_, _*_, _≤_}
-use mathlib.Core.Path.{_≡_, refl, sym, ap, subst, _∙_}
+use mathlib.Core.Path.{_≡_, sym, ap, subst, subst₂, _∙_}
 use mathlib.Core.Bool.{true}
 use mathlib.Core.List.{List, _++_}
 use lib.ListN.{length, take, drop}
@@ -40,8 +40,8 @@ module _ {areas calls : List ℕ} {first : FrameAllocator} {ws₀ answers₀ hel
 
   module _ (b : FrameAllocator) (n : Lengths) {ws answers held : List ℕ} (s : Reached areas calls first ws₀ answers₀ held₀ number made (withLengths b n) ws answers held) where
     -- a call that was not done on the tables
-    pub reached-still : (between : List ℕ) → between ≡ ws → Reached areas calls first ws₀ answers₀ held₀ number made (withLengths b n) between answers held
-    reached-still between e = subst (λ (x : List ℕ). Reached areas calls first ws₀ answers₀ held₀ number made (withLengths b n) x answers held) (sym e) s
+    pub reached-still : (between listed : List ℕ) → between ≡ ws → listed ≡ held → Reached areas calls first ws₀ answers₀ held₀ number made (withLengths b n) between answers listed
+    reached-still between listed e h = subst₂ (λ (x y : List ℕ). Reached areas calls first ws₀ answers₀ held₀ number made (withLengths b n) x answers y) (sym e) (sym h) s
 
     keeps : number ≡ 0 → Ruled (withLengths b n) ws
     keeps z = checked-ruled (withLengths b n) ws (sym (s .tested) ∙ z)
@@ -52,13 +52,13 @@ module _ {areas calls : List ℕ} {first : FrameAllocator} {ws₀ answers₀ hel
 
     -- and one that was
     pub reached-tried : 3 * made + 3 ≤ length calls → (c : RunCall) (d : Decoded) → d ≡ decodedAt areas calls (3 * made) → d ≡ Make c → 5 * made + 5 ≤ length answers →
-        (t : Tried) {words-after : List ℕ} → TriedMade number (b .sorted) c n ws t words-after → t .done ≡ true →
+        (t : Tried) {words-after held-after : List ℕ} → TriedMade number (b .sorted) c n ws held t words-after held-after → t .done ≡ true →
         (answers-after : List ℕ) → answers-after ≡ take (5 * made) answers ++ answerWords (t .answer) ++ drop (5 * made + 5) answers →
-        length words-after ≡ length ws → length answers-after ≡ length answers →
-        Reached areas calls first ws₀ answers₀ held₀ number (made + 1) (withLengths b (t .lengths)) words-after answers-after held
-    reached-tried h c d p q room t {words-after = words-after} m done answers-after w nw na =
+        length words-after ≡ length ws → length answers-after ≡ length answers → length held-after ≡ length held →
+        Reached areas calls first ws₀ answers₀ held₀ number (made + 1) (withLengths b (t .lengths)) words-after answers-after held-after
+    reached-tried h c d p q room t {words-after = words-after} {held-after = held-after} m done answers-after w nw na nh =
         let u = keeps (m .accepted done) in
         let e = m .form done in
         let same : tabled n ≡ withLengths b n = sym (ruled-tabled (withLengths b n) ws u e n) in
         let after : record { answer = t .answer; allocator = tabled (t .lengths) } ≡ calledWith b t = (λ i. record { answer = t .answer; allocator = sym (ruled-tabled (withLengths b n) ws u e (t .lengths)) i }) in
-        reached-next s h c d p q room (subst (λ (x : Called). Made (callIn areas (length held) c) (withLengths b n) ws held x words-after held) after (made-on same (m .made done areas held))) answers-after w nw na refl
+        reached-next s h c d p q room (subst (λ (x : Called). Made (callIn areas (length held) c) (withLengths b n) ws held x words-after held-after) after (made-on same (m .made done areas))) answers-after w nw na nh

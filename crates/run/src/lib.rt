@@ -1,5 +1,5 @@
-// A list of calls of any length, run from a record and its workspace: docs/RUN.md. The rules are tested once, and again by a boot or a
-// sort; what the calls give is what they give where each is tested by itself (`test-lasts`, rules/proofs/Lasting).
+// A list of calls of any length, run from a record and its workspace: docs/RUN.md. The rules are tested once; what the calls give is what
+// they give where each is tested by itself (`test-lasts`, rules/proofs/Lasting).
 ghost use mathlib.Core.Path.{_≡_};
 ghost use mathlib.Core.List.{_++_};
 ghost use Prim.Native.Nat.{_+_, _≤_};
@@ -59,7 +59,7 @@ pub fn run(
             return ended(allocator, n, made, RunEnd::NoRoom);
         }
         // Most calls in sorted form copy no slots.
-        let tried = commands::try_call(number, allocator.sorted, n, words, command);
+        let tried = commands::try_call(number, allocator.sorted, n, words, held, command);
         if tried.done {
             put_answer(answers, at, tried.answer);
             n = tried.lengths;

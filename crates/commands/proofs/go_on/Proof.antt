@@ -5,6 +5,7 @@ use mathlib.Core.Path.{_≡_}
 use Rattle.model.specs.Calls.{answer}
 use Rattle.model.proofs.Unchanged.{kind}
 use Rattle.rules.proofs.Numbers.{checked-ruled}
+use Rattle.boot.specs.Boots.{bootCallOf}
 use Rattle.commands.specs.Commands.{callIn}
 use Rattle.commands.proofs.Making.{boot-in-list, byte-boot-in-list, made-as, made-gives, made-does, made-answers, made-held, made-request, total-question, long-held}
 use borrow.Author.Needs.{needs}
@@ -14,25 +15,26 @@ use Rattle.commands.proofs.go_on.Tie as tie
 enum-known-command : tie.Need-enum-known-command
 enum-known-command c = search needs
 
-boot-frames-requires : tie.Need-boot-frames-requires
-boot-frames-requires c κs =
+boot-listed-requires : tie.Need-boot-listed-requires
+boot-listed-requires c κs =
     let k = c .before .before in
-    boot-in-list _ _ _ _ (k .command .given .1) (k .before .before .before .before .before .pre .1)
+    let s = k .before .before .before .before .before in
+    (checked-ruled _ _ (s .pre .0 .number), boot-in-list _ _ _ _ (k .command .given .1) (s .pre .1))
 
 enum-known-command-2 : tie.Need-enum-known-command-2
 enum-known-command-2 c = search needs
 
-boot-bytes-requires : tie.Need-boot-bytes-requires
-boot-bytes-requires c κs =
+boot-listed-requires-2 : tie.Need-boot-listed-requires-2
+boot-listed-requires-2 c κs =
     let k = c .before .before in
-    byte-boot-in-list _ _ _ _ (k .command2 .given .1) (k .before .before .before .before .before .pre .1)
+    let s = k .before .before .before .before .before in
+    (checked-ruled _ _ (s .pre .0 .number), byte-boot-in-list _ _ _ _ (k .command2 .given .1) (s .pre .1))
 
 enum-told : tie.Need-enum-told
 enum-told c = search needs
 
-convert-frame-allocator-to-heap-based-requires :
-    tie.Need-convert-frame-allocator-to-heap-based-requires
-convert-frame-allocator-to-heap-based-requires c κs = search needs
+sort-record-requires : tie.Need-sort-record-requires
+sort-record-requires c κs = checked-ruled _ _ (c .before .before .before .before .before .before .pre .0 .number)
 
 enum-known-command-3 : tie.Need-enum-known-command-3
 enum-known-command-3 c = search needs
@@ -79,31 +81,31 @@ same-length : tie.Need-same-length
 same-length c = search needs
 
 returns : tie.Need-returns
-unfolding callIn
+unfolding callIn bootCallOf
 returns c =
     let k = c .before .before .before in
     let s = c .before .before .before .before .before .before .before .before in
-    made-as (s .args .areas .now) (k .command .given .1) (s .pre .0) (λ g. made-gives _ (s .args .a) (s .args .words .now) (s .args .held .now) (λ h. let w : _≡_ {A = ℕ} 0 1 = cc in omega arith) (c .boot-frames .ensures))
+    made-as (s .args .areas .now) (k .command .given .1) (s .pre .0) (λ g. made-gives _ (s .args .a) (s .args .words .now) (s .args .held .now) (λ h. let w : _≡_ {A = ℕ} 0 1 = cc in omega arith) (c .boot-listed .ensures))
 
 same-length-2 : tie.Need-same-length-2
 same-length-2 c = search needs
 
 returns-2 : tie.Need-returns-2
-unfolding callIn
+unfolding callIn bootCallOf
 returns-2 c =
     let k = c .before .before .before in
     let s = c .before .before .before .before .before .before .before .before in
-    made-as (s .args .areas .now) (k .command2 .given .1) (s .pre .0) (λ g. made-gives _ (s .args .a) (s .args .words .now) (s .args .held .now) (λ h. let w : _≡_ {A = ℕ} 0 1 = cc in omega arith) (c .boot-bytes .ensures))
+    made-as (s .args .areas .now) (k .command2 .given .1) (s .pre .0) (λ g. made-gives _ (s .args .a) (s .args .words .now) (s .args .held .now) (λ h. let w : _≡_ {A = ℕ} 0 1 = cc in omega arith) (c .boot-listed2 .ensures))
 
 same-length-3 : tie.Need-same-length-3
 same-length-3 c = search needs
 
 returns-3 : tie.Need-returns-3
-unfolding callIn
+unfolding callIn answer
 returns-3 c =
     let k = c .before .before .before .before in
     let s = c .before .before .before .before .before .before .before .before .before in
-    made-as (s .args .areas .now) (k .enum-told .given .1) (s .pre .0) (λ g. made-gives _ (s .args .a) (s .args .words .now) (s .args .held .now) (λ h. let w : _≡_ {A = ℕ} 0 1 = cc in omega arith) (c .before .before .convert-frame-allocator-to-heap-based .ensures))
+    made-as (s .args .areas .now) (k .enum-told .given .1) (s .pre .0) (λ g. made-does _ (s .args .a) (s .args .words .now) (s .args .held .now) (λ h. let w : _≡_ {A = ℕ} 0 1 = cc in omega arith) g (c .before .before .sort-record .ensures))
 
 same-length-4 : tie.Need-same-length-4
 same-length-4 c = search needs
@@ -162,11 +164,11 @@ go-on-spec =
     tie.close
     (tie.spec
     enum-known-command
-    boot-frames-requires
+    boot-listed-requires
     enum-known-command-2
-    boot-bytes-requires
+    boot-listed-requires-2
     enum-told
-    convert-frame-allocator-to-heap-based-requires
+    sort-record-requires
     enum-known-command-3
     meet-request-requires
     enum-known-command-4

@@ -117,26 +117,26 @@ more : (c : tie.In-loop Inv-loop μ-loop) → 3 * c .before .loop .made + 3 ≤ 
 more c = omega arith
 
 try-call-requires : tie.Need-try-call-requires Inv-loop μ-loop
-try-call-requires c κs = let l = c .before .before .before .before .before .before .before .before .before .before .loop in λ z e. tables-checked (l .allocator) (l .n) (l .inv) z e
+try-call-requires c κs = let l = c .before .before .before .before .before .before .before .before .before .before .before .loop in λ z e. tables-checked (l .allocator) (l .n) (l .inv) z e
 
 put-answer-requires : tie.Need-put-answer-requires Inv-loop μ-loop
 put-answer-requires c κs = omega arith
 
 add-made : tie.Need-add-made Inv-loop μ-loop
-add-made c = omega (arith, mul-i (c .before .before .before .before .before .before .before .before .before .before .before .before .before .before .before .before .before .before))
+add-made c = omega (arith, mul-i (c .before .before .before .before .before .before .before .before .before .before .before .before .before .before .before .before .before .before .before .before .before))
 
 loop-less : tie.Need-loop-less Inv-loop μ-loop
-loop-less c = omega (arith, more (c .before .before .before .before .before .before .before .before .before .before .before .before .before .before .before .before .before .before))
+loop-less c = omega (arith, more (c .before .before .before .before .before .before .before .before .before .before .before .before .before .before .before .before .before .before .before .before .before))
 
 loop-again : tie.Need-loop-again Inv-loop μ-loop
 loop-again c =
     let w = c .before .before .before in
-    let t = w .before .before .before .before .before in
-    let d = t .before .before .before .before in
+    let t = w .before .before .before .before .before .before .before in
+    let d = t .before .before .before .before .before in
     let k = d .before .before in
     let i = k .before .before .before .before in
     let l = i .before .loop in
-    reached-tried (l .allocator) (l .n) (l .inv) (more i) _ _ (k .decode .ensures) (d .decoded .given .1) (omega arith) _ (t .try-call .ensures) (w .before .before .if2 .taken) _ (w .put-answer .ensures) (omega (arith, c .before .before .before .before .before .before .before .words .given)) (omega (arith, c .before .before .answers .given))
+    reached-tried (l .allocator) (l .n) (l .inv) (more i) _ _ (k .decode .ensures) (d .decoded .given .1) (omega arith) _ (t .try-call .ensures) (w .before .before .if2 .taken) _ (w .put-answer .ensures) (omega (arith, c .before .before .before .before .before .before .before .before .before .words .given)) (omega (arith, c .before .before .answers .given)) (omega (arith, c .before .before .before .before .before .before .before .held .given))
 
 with-lengths-requires : tie.Need-with-lengths-requires Inv-loop μ-loop
 with-lengths-requires c κs = search needs
@@ -144,24 +144,24 @@ with-lengths-requires c κs = search needs
 make-call-requires : tie.Need-make-call-requires Inv-loop μ-loop
 make-call-requires c κs =
     let e = c .before .before .before in
-    let t = e .before .before .before in
-    let d = t .before .before .before .before in
+    let t = e .before .before .before .before .before in
+    let d = t .before .before .before .before .before in
     let k = d .before .before in
     let l = k .before .before .before .before .before .loop in
-    let s = reached-still (l .allocator) (l .n) (l .inv) _ (t .try-call .ensures .leaves (e .if2 .left)) in
+    let s = reached-still (l .allocator) (l .n) (l .inv) _ _ (t .try-call .ensures .leaves (e .if2 .left)) (t .try-call .ensures .keeps (e .if2 .left)) in
     (tested-on s _ (c .before .before .with-lengths .ensures), decoded-in-list _ _ _ _ _ (sym (d .decoded .given .1) ∙ k .decode .ensures))
 
 put-answer-requires-2 : tie.Need-put-answer-requires-2 Inv-loop μ-loop
-put-answer-requires-2 c κs = omega arith
+put-answer-requires-2 c κs = omega (arith, c .before .before .before .before .before .before .before .before .before .before .before .before .before .before .before .before .before .if1 .left)
 
 lengths-of-requires-2 : tie.Need-lengths-of-requires-2 Inv-loop μ-loop
 lengths-of-requires-2 c κs = search needs
 
 add-made-2 : tie.Need-add-made-2 Inv-loop μ-loop
-add-made-2 c = omega (arith, mul-i (c .before .before .before .before .before .before .before .before .before .before .before .before .before .before .before .before .before .before .before .before .before .before .before .before .before .before .before))
+add-made-2 c = omega (arith, mul-i (c .before .before .before .before .before .before .before .before .before .before .before .before .before .before .before .before .before .before .before .before .before .before .before .before .before .before .before .before .before .before))
 
 loop-less-2 : tie.Need-loop-less-2 Inv-loop μ-loop
-loop-less-2 c = omega (arith, more (c .before .before .before .before .before .before .before .before .before .before .before .before .before .before .before .before .before .before .before .before .before .before .before .before .before .before .before))
+loop-less-2 c = omega (arith, more (c .before .before .before .before .before .before .before .before .before .before .before .before .before .before .before .before .before .before .before .before .before .before .before .before .before .before .before .before .before .before))
 
 loop-again-2 : tie.Need-loop-again-2 Inv-loop μ-loop
 loop-again-2 c =
@@ -169,14 +169,14 @@ loop-again-2 c =
     let m = w .before .before .before .before .before .before in
     let p = m .before .before .before in
     let e = p .before in
-    let t = e .before .before .before in
-    let d = t .before .before .before .before in
+    let t = e .before .before .before .before .before in
+    let d = t .before .before .before .before .before in
     let k = d .before .before in
     let i = k .before .before .before .before in
     let l = i .before .loop in
-    let s = reached-still (l .allocator) (l .n) (l .inv) _ (t .try-call .ensures .leaves (e .if2 .left)) in
+    let s = reached-still (l .allocator) (l .n) (l .inv) _ _ (t .try-call .ensures .leaves (e .if2 .left)) (t .try-call .ensures .keeps (e .if2 .left)) in
     reached-apart
-    (reached-next s (more i) _ _ (k .decode .ensures) (d .decoded .given .1) (omega arith) (made-on (p .with-lengths .ensures) (m .make-call .ensures)) _ (w .put-answer2 .ensures) (omega (arith, c .before .before .before .before .before .before .before .before .before .words2 .given)) (omega (arith, c .before .before .before .answers2 .given)) (omega (arith, c .before .before .before .before .before .before .before .held .given))) _ (c .lengths-of2 .ensures)
+    (reached-next s (more i) _ _ (k .decode .ensures) (d .decoded .given .1) (omega (arith, t .before .before .before .if1 .left)) (made-on (p .with-lengths .ensures) (m .make-call .ensures)) _ (w .put-answer2 .ensures) (omega (arith, c .before .before .before .before .before .before .before .before .before .words2 .given)) (omega (arith, c .before .before .before .answers2 .given)) (omega (arith, c .before .before .before .before .before .before .before .held2 .given))) _ (c .lengths-of2 .ensures)
 
 ended-requires-3 : tie.Need-ended-requires-3 Inv-loop μ-loop
 ended-requires-3 c κs = search needs
