@@ -30,12 +30,12 @@ list has 32 slots.
 """,
     "boot": """## Boots
 
-Size: how many areas. Before each boot of c and d the Rust's lists are emptied, and that isn't timed. A run of one boot tests the rules
-twice: as it starts, and in the boot.
+Size: how many areas. Before each boot of c and d the Rust's lists are emptied, and that isn't timed. A run can boot a record only once, so
+b is what the boot adds to a run: a run of it less a run of no calls on the same record, which is the test that a run makes once.
 """,
     "sort": """## Sort
 
-From early to sorted form. Ours writes all 4,096 words.
+From early to sorted form. Ours writes all 4,096 words. As for boots, b is what the sort adds to a run.
 """,
     "held": """## Held list
 
@@ -80,6 +80,9 @@ def read(path):
             continue
         table, case, form, size, side, ns = line.strip().split(";")
         rows.setdefault((table, case, form, int(size)), {})[side] = float(ns)
+    for times in rows.values():
+        if "empty_run" in times:
+            times["run"] -= times.pop("empty_run")
     return facts, rows
 
 

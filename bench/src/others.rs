@@ -8,7 +8,7 @@ use crate::{plain, theirs};
 use std::hint::black_box;
 
 /// Where the Rust refuses by a panic.
-const OURS: [Side; 2] = [Side::Single, Side::Run];
+const OURS: [Side; 3] = [Side::Single, Side::Run, Side::EmptyRun];
 
 fn test(w: &World) {
     assert_eq!(plain::check(black_box(&w.record), black_box(&w.words)), 0);
@@ -42,7 +42,7 @@ pub fn boots() {
     ];
     for (case, areas, sizes) in some {
         for &size in sizes {
-            boot(Row { table: "boot", case, form: "early", size }, &areas(size), &Side::ALL, 0);
+            boot(Row { table: "boot", case, form: "early", size }, &areas(size), &Side::ONCE, 0);
         }
     }
     let case = "32 reserved areas that cut each general one (7)";
@@ -55,6 +55,7 @@ fn boot(row: Row, areas: &[u64], sides: &[Side], number: u64) {
     let calls = 1 + 3_000 / row.size;
     let map = theirs::Map::new(areas);
     let mut run = Run::new(vec![0, 0, areas.len() as u64 / 3], areas.to_vec());
+    let mut empty = Run::new(Vec::new(), Vec::new());
     let rounds = if row.size < 1_000 { 100 } else { 5 };
     row.time(sides, rounds, calls, |side| match side {
         Side::Single => timed_each(calls, World::fresh, |mut w| assert_eq!(ours::boot(&mut w, areas).number, number)),
@@ -64,6 +65,7 @@ fn boot(row: Row, areas: &[u64], sides: &[Side], number: u64) {
             test(&w);
             map.boot();
         }),
+        Side::EmptyRun => timed_each(calls, World::fresh, |mut w| empty.make(&mut w)),
     });
 }
 
@@ -82,8 +84,9 @@ pub fn sorts() {
             world.clone()
         };
         let mut run = Run::new(vec![2, 0, 0], Vec::new());
+        let mut empty = Run::new(Vec::new(), Vec::new());
         const CALLS: usize = 100;
-        row.time(&Side::ALL, 100, CALLS, |side| match side {
+        row.time(&Side::ONCE, 100, CALLS, |side| match side {
             Side::Single => timed_each(CALLS, both, |mut w| assert_eq!(ours::sort(&mut w).number, 0)),
             Side::Run => timed_each(CALLS, both, |mut w| run.make(&mut w)),
             Side::Rust => timed_each(CALLS, both, |_| theirs::sort()),
@@ -91,6 +94,7 @@ pub fn sorts() {
                 test(&w);
                 theirs::sort();
             }),
+            Side::EmptyRun => timed_each(CALLS, both, |mut w| empty.make(&mut w)),
         });
     }
 }
@@ -116,6 +120,7 @@ pub fn held_lists() {
                     walk(&world, &mut buffer);
                 })
             }),
+            Side::EmptyRun => unreachable!("a run makes many of these calls"),
         });
     }
 }

@@ -114,6 +114,7 @@ impl Pairs {
                 self.test();
                 drop(frames);
             }),
+            Side::EmptyRun => unreachable!("a run makes many of these calls"),
         }
     }
 

@@ -13,10 +13,14 @@ pub enum Side {
     Rust,
     /// A plain Rust pass that tests the same rules, and the Rust's call.
     RustTested,
+    /// Our run of no calls on the same record: the one test that a run makes.
+    EmptyRun,
 }
 
 impl Side {
     pub const ALL: [Side; 4] = [Side::Single, Side::Run, Side::Rust, Side::RustTested];
+    /// Where a run can make the call only once.
+    pub const ONCE: [Side; 5] = [Side::Single, Side::Run, Side::Rust, Side::RustTested, Side::EmptyRun];
 
     fn name(self) -> &'static str {
         match self {
@@ -24,6 +28,7 @@ impl Side {
             Side::Run => "run",
             Side::Rust => "rust",
             Side::RustTested => "rust_tested",
+            Side::EmptyRun => "empty_run",
         }
     }
 }
@@ -39,7 +44,7 @@ pub struct Row {
 impl Row {
     /// Prints a line for each side: nanoseconds for one of `calls` calls in a batch. The batch says how long it took.
     pub fn time(&self, sides: &[Side], rounds: usize, calls: usize, mut batch: impl FnMut(Side) -> Duration) {
-        let mut least = [Duration::MAX; 4];
+        let mut least = [Duration::MAX; 5];
         for _ in 0..rounds {
             for side in sides {
                 least[*side as usize] = least[*side as usize].min(batch(*side));
