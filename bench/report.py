@@ -31,7 +31,7 @@ list has 32 slots.
     "boot": """## Boots
 
 Size: how many areas. Before each boot of c and d the Rust's lists are emptied, and that isn't timed. A run can boot a record only once, so
-b is what the boot adds to a run: a run of it less a run of no calls on the same record, which is the test that a run makes once.
+b is what the boot adds to a run: a run of it less a run of no calls on the same record, which tests once and copies the record in and out.
 """,
     "sort": """## Sort
 
@@ -57,10 +57,13 @@ LEFT_OVER = """Why these are missed; what has been mended is in [DECISIONS.md](D
 
 - **A whole chunk leaves the middle or the bottom of a long table.** A table is an array in the lent words, so the pairs above move, up
   to 8 KB each way. The Rust has a tree, whose nodes need a heap.
-- **Early form.** The record, 2.2 KB, is handed by value from function to function, some 13 times a call. It doesn't grow: a list has 32
-  slots. Early form is for the calls between boot and sort.
-- **A checked call on short lists.** Where the test is short, four copies of the record show: in, to the call, out, back.
-- **Boots, the sort, the held list.** Neither profiled nor mended yet. Through a run a boot and a sort test the rules twice.
+- **Early form.** The record, 2.2 KB, is handed by value from function to function: a request copies 36 KB, a return 24 KB, and a held list
+  puts the slots in order first. It doesn't grow: a list has 32 slots. Early form is for the calls between boot and sort.
+- **A checked call on short lists.** Where the test is short, the copies of the record show: in, to the test, to the call, out, back.
+- **A boot of two areas.** It makes a record whatever the areas are, 21 KB of copies of it and of lists of 32 ranges. With 32 areas and more
+  a boot takes no longer than the Rust's.
+- **A sort of few entries.** It clears all four tables, 32 KB.
+- **A held list of few runs in sorted form.** A call of a run reads three words and writes five, and the plain walk does neither.
 """
 
 GROWTH = """## As the lists grow

@@ -110,7 +110,7 @@ pub fn held_lists() {
         let mut buffer = vec![0; 2048];
         let mut run = Run::new([11, 0, 0].repeat(100), Vec::new());
         let runs = plain::held_runs(&world.record, &world.words, &mut buffer) as u64;
-        row.time(&Side::ALL, 200, 100, |side| match side {
+        row.time(&Side::COLUMNS, 200, 100, |side| match side {
             Side::Single => timed(|| (0..100).for_each(|_| assert_eq!(ours::held_list(&world, &mut buffer).count, runs))),
             Side::Run => timed(|| run.make(&mut world)),
             Side::Rust => timed(|| (0..100).for_each(|_| walk(&world, &mut buffer))),

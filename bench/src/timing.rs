@@ -13,12 +13,13 @@ pub enum Side {
     Rust,
     /// A plain Rust pass that tests the same rules, and the Rust's call.
     RustTested,
-    /// Our run of no calls on the same record: the one test that a run makes.
+    /// Our run of no calls on the same record: its one test, and the record copied in and out.
     EmptyRun,
 }
 
 impl Side {
-    pub const ALL: [Side; 4] = [Side::Single, Side::Run, Side::Rust, Side::RustTested];
+    /// Where a run makes many calls.
+    pub const COLUMNS: [Side; 4] = [Side::Single, Side::Run, Side::Rust, Side::RustTested];
     /// Where a run can make the call only once.
     pub const ONCE: [Side; 5] = [Side::Single, Side::Run, Side::Rust, Side::RustTested, Side::EmptyRun];
 

@@ -89,12 +89,12 @@ pub record CollectedOf (xs : List BootArea) (c : Collected) : Type 0 where
   pub empty-is : c .«any_empty» ≡ anyOf isEmpty (reservedIn xs)
   pub outside-is : c .«any_outside» ≡ anyOutside xs
 
--- what is collected, where the arrays of the reserved areas are lent
-abbrev pub gathered : List ℕ → List ℕ → Seen → Collected
-gathered ss es s = record { reserved = rangeListOf ss es (s .reserved); «any_empty» = s .«any_empty»; «any_outside» = s .«any_outside» }
-
 -- and of one area more
 pub record OneAreaMore (before : Collected) (a : BootArea) (after : Collected) : Type 0 where
   pub appended : Appended (before .reserved) (reservedIn (a ∷ [])) (after .reserved)
   pub empty-is : after .«any_empty» ≡ (before .«any_empty» || anyOf isEmpty (reservedIn (a ∷ [])))
   pub outside-is : after .«any_outside» ≡ (before .«any_outside» || a .outside)
+
+-- what is collected, where the arrays of the reserved areas are lent
+abbrev pub gathered : List ℕ → List ℕ → Seen → Collected
+gathered ss es s = record { reserved = rangeListOf ss es (s .«reserved_len»); «any_empty» = s .«any_empty»; «any_outside» = s .«any_outside» }

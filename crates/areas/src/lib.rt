@@ -35,9 +35,9 @@ pub struct Collected {
 }
 
 // The same while areas are collected, without the arrays of the reserved areas: those are lent, so that an area copies none.
-// `reserved` is how many there are, 33 where they are more than 32.
+// `reserved_len` is how many there are, 33 where they are more than 32.
 pub struct Seen {
-    pub reserved: usize,
+    pub reserved_len: usize,
     pub any_empty: bool,
     pub any_outside: bool,
 }
@@ -50,7 +50,7 @@ pub fn collect(areas: &[u64], unit: AreaUnit) -> Collected
     let mut starts = none.starts;
     let mut ends = none.ends;
     let mut seen = Seen {
-        reserved: none.len,
+        reserved_len: none.len,
         any_empty: false,
         any_outside: false,
     };
@@ -99,6 +99,7 @@ pub fn nothing_collected() -> Collected
     }
 }
 
+// One area more, for a list by value: a walk over structs can't lend what lies in one.
 pub fn collect_area(c: Collected, area: BootArea) -> Collected
     ensures { λ r. ⌜ OneAreaMore c area r ⌝ }
 {
@@ -106,7 +107,7 @@ pub fn collect_area(c: Collected, area: BootArea) -> Collected
     let mut starts = reserved.starts;
     let mut ends = reserved.ends;
     let before = Seen {
-        reserved: reserved.len,
+        reserved_len: reserved.len,
         any_empty: c.any_empty,
         any_outside: c.any_outside,
     };
@@ -122,15 +123,21 @@ fn collect_at(starts: &mut [u64; 32], ends: &mut [u64; 32], seen: Seen, area: Bo
     let kind = area.kind;
     match kind {
         Kind::General => Seen {
-            reserved: seen.reserved,
+            reserved_len: seen.reserved_len,
             any_empty: seen.any_empty,
             any_outside,
         },
         Kind::Reserved => {
-            let reserved = carving::push_at(starts, ends, seen.reserved, area.start, area.end);
+            let reserved_len = carving::push_at(
+                starts,
+                ends,
+                seen.reserved_len,
+                area.start,
+                area.end,
+            );
             let any_empty = seen.any_empty || area.end < area.start;
             Seen {
-                reserved,
+                reserved_len,
                 any_empty,
                 any_outside,
             }
@@ -144,7 +151,7 @@ fn gathered(starts: [u64; 32], ends: [u64; 32], seen: Seen) -> Collected
     let reserved = RangeList {
         starts,
         ends,
-        len: seen.reserved,
+        len: seen.reserved_len,
     };
     Collected {
         reserved,
@@ -153,6 +160,7 @@ fn gathered(starts: [u64; 32], ends: [u64; 32], seen: Seen) -> Collected
     }
 }
 
+// The pieces of one area, for a list by value.
 pub fn carve_area<'a>(
     area: BootArea,
     starts: &'a [u64; 32],

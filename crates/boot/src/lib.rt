@@ -36,7 +36,7 @@ pub fn init_from_bytes(a: FrameAllocator, areas: &[u64], words: &[u64]) -> Calle
     boot_surveyed(a, survey_words(areas, AreaUnit::Bytes), words)
 }
 
-// The boot of either, of a record that keeps the rules.
+// A boot from areas in either unit, of a record that keeps the rules: 10 comes first.
 pub fn boot_words(a: FrameAllocator, areas: &[u64], unit: AreaUnit, words: &[u64]) -> Called
     requires { ⌜ Ruled a (now words) ⌝ }
     ensures { λ r. ⌜ Gives (spec.bootCallOf unit (now (areas .entry))) a (now (words .entry)) r (now (words .entry)) ⌝ }

@@ -46,12 +46,8 @@ count l rs e = ap (λ (x : RangeList). x .len) e
 one-more : (rs : List FrameRange) (r : FrameRange) → length (rs ++ r ∷ []) ≡ length rs + 1
 one-more rs r = length-append rs (r ∷ [])
 
--- the arrays with one range more, as it is stored
-abbrev pub withOneMore : RangeList → ℕ → ℕ → RangeList
-withOneMore l s e = record { starts = set (l .starts) (l .len) s; ends = set (l .ends) (l .len) e; len = l .len + 1 }
-
 module _ (l : RangeList) (s e : ℕ) where
-  pub pushed : l .len < 32 → Appended l (range s e ∷ []) (withOneMore l s e)
+  pub pushed : l .len < 32 → Appended l (range s e ∷ []) (record { starts = set (l .starts) (l .len) s; ends = set (l .ends) (l .len) e; len = l .len + 1 })
   unfolding listed
   pushed h rs p =
       let n : l .len ≡ length rs = omega (arith, count l rs p) in

@@ -14,7 +14,7 @@ pub struct RangeList {
     pub len: usize,
 }
 
-// A list to push to.
+// A list of no ranges.
 pub fn no_ranges() -> RangeList
     ensures { λ r. ⌜ r ≡ listed [] ⌝ }
 {

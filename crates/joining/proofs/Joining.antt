@@ -12,15 +12,14 @@ use Rattle.model.specs.Boot.{grown, left, pass, join}
 use Rattle.model.proofs.Boots.{left-length, pass-length}
 use Rattle.model.proofs.Joined.{onePass, pass-step, join-step}
 use Rattle.carving.specs.declared.RangeList.{RangeList}
-use Rattle.carving.specs.Ranges.{listed, rangesIn, Whole}
-use Rattle.carving.proofs.Listed.{count, withOneMore, pushed, read-back, listed-whole, whole-length, range-at}
+use Rattle.carving.specs.Ranges.{listed, rangesIn, Whole, Appended}
+use Rattle.carving.proofs.Listed.{count, read-back, listed-whole, whole-length, range-at}
 use Rattle.joining.specs.Joins.{firstGrown, othersLeft}
 
 -- what the first area, as it has grown, and the others from k on make
 pub record Absorbing (rs : List FrameRange) (s e : ℕ) (rest : RangeList) (k : ℕ) : Type 0 where
   pub ys : List FrameRange
   pub is : rest ≡ listed ys
-  pub few : rest .len < k
   pub grows : firstGrown rs ≡ grown (range s e) (drop k rs)
   pub leaves : othersLeft rs ≡ ys ++ left (range s e) (drop k rs)
 
@@ -35,7 +34,7 @@ module _ (l : RangeList) (w : Whole l) where
   unfolding firstGrown othersLeft
   absorb-start h rest e =
       let d : rs ≡ area 0 ∷ drop 1 rs = range-at l w 0 h in
-      record { ys = []; is = e; few = omega (arith, count rest [] e); grows = ap firstGrown d; leaves = ap othersLeft d }
+      record { ys = []; is = e; grows = ap firstGrown d; leaves = ap othersLeft d }
 
   module _ (s e : ℕ) (rest : RangeList) (k : ℕ) (a : Absorbing rs s e rest k) where
     pub absorb-end : l .len ≤ k → (range s e ≡ firstGrown rs) × (rest ≡ listed (othersLeft rs))
@@ -50,17 +49,15 @@ module _ (l : RangeList) (w : Whole l) where
       absorb-met m = record {
         ys = a .ys;
         is = a .is;
-        few = omega (arith, a .few);
         grows = a .grows ∙ ap (grown (range s e)) (range-at l w k h) ∙ rw (grown, m);
         leaves = a .leaves ∙ ap (λ (x : List FrameRange). a .ys ++ left (range s e) x) (range-at l w k h) ∙ rw m;
       }
 
-      pub absorb-not : meets (range s e) (area k) ≡ false → Absorbing rs s e (withOneMore rest (area k .start) (area k .end)) (k + 1)
+      pub absorb-not : meets (range s e) (area k) ≡ false → (next : RangeList) → Appended rest (area k ∷ []) next → Absorbing rs s e next (k + 1)
       unfolding grown left
-      absorb-not m = record {
+      absorb-not m next p = record {
         ys = a .ys ++ area k ∷ [];
-        is = pushed rest (area k .start) (area k .end) (omega (arith, a .few, w .few)) (a .ys) (a .is);
-        few = omega (arith, a .few);
+        is = p (a .ys) (a .is);
         grows = a .grows ∙ ap (grown (range s e)) (range-at l w k h) ∙ rw (grown, m);
         leaves = a .leaves ∙ ap (λ (x : List FrameRange). a .ys ++ left (range s e) x) (range-at l w k h) ∙ rw m
             (sym (append-assoc (a .ys) (area k ∷ []) (left (range s e) (drop (k + 1) rs))));
@@ -72,24 +69,21 @@ pub record Passing (rs : List FrameRange) (joined todo : RangeList) : Type 0 whe
   pub ts : List FrameRange
   pub done : joined ≡ listed ds
   pub todo-is : todo ≡ listed ts
-  pub few : joined .len + todo .len ≤ 32
+  pub few : length ts ≤ 32
   pub whole : onePass rs ≡ ds ++ onePass ts
 
 pub passing-start : (l : RangeList) → Whole l → (joined : RangeList) → joined ≡ listed [] → Passing (rangesIn l) joined l
-passing-start l w joined e = record { ds = []; ts = rangesIn l; done = e; todo-is = w .is; few = omega (arith, count joined [] e, w .few); whole = refl }
+passing-start l w joined e = record { ds = []; ts = rangesIn l; done = e; todo-is = w .is; few = omega (arith, whole-length l w, w .few); whole = refl }
 
 module _ (rs : List FrameRange) (joined todo : RangeList) (p : Passing rs joined todo) where
-  todo-few : length (p .ts) ≤ 32
-  todo-few = omega (arith, count todo (p .ts) (p .todo-is), p .few)
-
   pub todo-whole : Whole todo
-  todo-whole = listed-whole todo (p .ts) todo-few (p .todo-is)
+  todo-whole = listed-whole todo (p .ts) (p .few) (p .todo-is)
 
   same : rangesIn todo ≡ p .ts
-  same = ap rangesIn (p .todo-is) ∙ read-back (p .ts) todo-few
+  same = ap rangesIn (p .todo-is) ∙ read-back (p .ts) (p .few)
 
   todo-length : length (p .ts) ≡ todo .len
-  todo-length = omega (arith, count todo (p .ts) (p .todo-is), todo-few)
+  todo-length = omega (arith, count todo (p .ts) (p .todo-is), p .few)
 
   pub passing-end : todo .len ≤ 0 → joined ≡ listed (onePass rs)
   unfolding pass
@@ -102,29 +96,29 @@ module _ (rs : List FrameRange) (joined todo : RangeList) (p : Passing rs joined
           nothing = append-nil (p .ds)
       go (c ∷ os) e z = absurd (omega arith)
 
-  pub passing-more : 0 < todo .len → (s e : ℕ) (rest : RangeList) → range s e ≡ firstGrown (rangesIn todo) → rest ≡ listed (othersLeft (rangesIn todo)) →
-      Passing rs (withOneMore joined s e) rest × (rest .len < todo .len)
+  pub passing-more : 0 < todo .len → (s e : ℕ) (rest next : RangeList) → range s e ≡ firstGrown (rangesIn todo) → rest ≡ listed (othersLeft (rangesIn todo)) →
+      Appended joined (range s e ∷ []) next → Passing rs next rest × (rest .len < todo .len)
   unfolding firstGrown othersLeft
-  passing-more h s e rest f o = go (p .ts) refl (omega (arith, todo-length))
+  passing-more h s e rest next f o q = go (p .ts) refl (omega (arith, todo-length))
     where
-      go : (ts : List FrameRange) → p .ts ≡ ts → length ts ≡ todo .len → Passing rs (withOneMore joined s e) rest × (rest .len < todo .len)
+      go : (ts : List FrameRange) → p .ts ≡ ts → length ts ≡ todo .len → Passing rs next rest × (rest .len < todo .len)
       go [] t z = absurd (omega arith)
       go (c ∷ os) t z =
           let g : range s e ≡ grown c os = f ∙ ap firstGrown (same ∙ t) in
           let l : rest ≡ listed (left c os) = o ∙ ap (λ (x : List FrameRange). listed (othersLeft x)) (same ∙ t) in
-          let fewer : rest .len < todo .len = omega (arith, count rest (left c os) l, left-length c os) in (
+          let few : length (left c os) ≤ 32 = omega (arith, left-length c os, p .few, todo-length) in (
             record {
               ds = p .ds ++ range s e ∷ [];
               ts = left c os;
-              done = pushed joined s e (omega (arith, p .few)) (p .ds) (p .done);
+              done = q (p .ds) (p .done);
               todo-is = l;
-              few = omega (arith, p .few);
+              few = few;
               whole =
                   p .whole ∙ ap (λ (x : List FrameRange). p .ds ++ onePass x) t
                   ∙ ap (λ (x : List FrameRange). p .ds ++ x) (pass-step c os ∙ ap (λ (x : FrameRange). x ∷ onePass (left c os)) (sym g))
                   ∙ sym (append-assoc (p .ds) (range s e ∷ []) (onePass (left c os)));
             },
-            fewer,
+            omega (arith, count rest (left c os) l, left-length c os),
           )
 
 -- passes until one joins nothing

@@ -7,6 +7,7 @@ ghost use Rattle.model.specs.Boot as model;
 ghost use Rattle.carving.specs.Ranges.{rangesIn, listed, Whole};
 ghost use Rattle.joining.specs.Joins.{firstGrown, othersLeft};
 use carving::RangeList;
+use carving::push_at;
 use memory_structs::highest;
 use memory_structs::lowest;
 use memory_structs::meet;
@@ -37,18 +38,17 @@ fn pass(l: RangeList) -> RangeList
     requires { ⌜ Whole l ⌝ }
     ensures { λ r. ⌜ r ≡ listed (model.pass (length (rangesIn l)) (rangesIn l)) ⌝ }
 {
-    let mut joined = carving::no_ranges();
+    let none = carving::no_ranges();
+    let mut starts = none.starts;
+    let mut ends = none.ends;
+    let mut len = none.len;
     let mut left = l;
     while 0 < left.len {
         let a = absorb(left);
-        // In place, as in `absorb`.
-        let done = joined.len;
-        joined.starts[done] = a.start;
-        joined.ends[done] = a.end;
-        joined.len = done + 1;
+        len = push_at(&mut starts, &mut ends, len, a.start, a.end);
         left = a.rest;
     }
-    joined
+    RangeList { starts, ends, len }
 }
 
 // The first area takes in each later one that it meets, as it has grown by then.
@@ -59,7 +59,10 @@ fn absorb(l: RangeList) -> Absorbed
 {
     let mut start = l.starts[0];
     let mut end = l.ends[0];
-    let mut rest = carving::no_ranges();
+    let none = carving::no_ranges();
+    let mut starts = none.starts;
+    let mut ends = none.ends;
+    let mut len = none.len;
     let mut k = 1;
     while k < l.len {
         let other_start = l.starts[k];
@@ -69,12 +72,9 @@ fn absorb(l: RangeList) -> Absorbed
             start = lowest(start, other_start);
             end = highest(end, other_end);
         } else {
-            // Written in place: a push would copy the list for each area.
-            let kept = rest.len;
-            rest.starts[kept] = other_start;
-            rest.ends[kept] = other_end;
-            rest.len = kept + 1;
+            len = push_at(&mut starts, &mut ends, len, other_start, other_end);
         }
     }
+    let rest = RangeList { starts, ends, len };
     Absorbed { start, end, rest }
 }

@@ -1,5 +1,5 @@
-// Of a record in sorted form only the tables' lengths say something: every slot is unused. Most requests and returns are made on these
-// lengths and the words, and copy no slots.
+// Of a record in sorted form only the tables' lengths say something: every slot is unused. Most requests and returns, and in a run the
+// held list, are made on these lengths and the words, and copy no slots.
 ghost use mathlib.Core.Path.{_≡_};
 ghost use mathlib.Core.Bool.{false};
 ghost use Rattle.memory_structs.specs.Range.{range, empty};
