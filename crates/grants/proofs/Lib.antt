@@ -3,3 +3,4 @@ pub mod Places
 pub mod Grant
 pub mod Rewritten
 pub mod Slots
+pub mod Placed

@@ -11,7 +11,7 @@ ghost use Rattle.model.specs.Store.{slotsOf, earlyOf, tableSlots};
 ghost use Rattle.tables.specs.Words.{IsTable};
 ghost use Rattle.early.specs.Slots.{IsEarly};
 ghost use Rattle.lists.specs.One.{IsList, slotsIn, Stored};
-ghost use Rattle.grants.specs.Grants.{Chooses, grantOf, entriesLeft, instead, TableOf};
+ghost use Rattle.grants.specs.Grants.{Chooses, grantOf, entriesLeft, TakesOut, instead, TableOf};
 use lists::OneList;
 use model::EarlyList;
 
@@ -23,8 +23,33 @@ pub struct Chosen {
     pub end: u64,
 }
 
+// Whether the list had a place for what is left over, and the list after the grant; without a place it is as it was.
+pub struct Taken {
+    pub placed: bool,
+    pub list: OneList,
+}
+
+// The frames from start to end leave the chunks that hold them. What is left over has no place where "after the call a list would hold
+// more than 32 (early) or 512 (sorted) entries".
+pub fn take(l: OneList, t: &mut [u64], chosen: Chosen, start: u64, end: u64) -> Taken
+    requires { ⌜ IsList l (now t) ⌝ }
+    requires { ⌜ tidy (l .sorted) (slotsIn l (now t)) ≡ true ⌝ }
+    requires { ⌜ Chooses (l .sorted) (slotsIn l (now t)) chosen start end ⌝ }
+    ensures { λ r. ⌜ TakesOut (l .sorted) chosen start end (slotsIn l (now (t .entry))) (now (t .entry)) r (now (t .exit)) ⌝ }
+{
+    let entries = entries_after(l, t, chosen, start, end);
+    if lists::bound(l.sorted) < entries {
+        return Taken {
+            placed: false,
+            list: l,
+        };
+    }
+    let list = allocate_from_chosen_chunk(l, t, chosen, start, end);
+    Taken { placed: true, list }
+}
+
 // How many entries the list has after the grant.
-pub fn entries_after(l: OneList, t: &[u64], chosen: Chosen, start: u64, end: u64) -> usize
+fn entries_after(l: OneList, t: &[u64], chosen: Chosen, start: u64, end: u64) -> usize
     requires { ⌜ IsList l (now t) ⌝ }
     requires { ⌜ Chooses (l .sorted) (slotsIn l (now t)) chosen start end ⌝ }
     ensures { λ r. ⌜ r ≡ entriesLeft (l .sorted) chosen start end (slotsIn l (now (t .entry))) ⌝ }

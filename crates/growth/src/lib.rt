@@ -73,7 +73,7 @@ fn no_room_to_grow(a: FrameAllocator, words: &[u64]) -> bool
     ensures { λ r. ⌜ r ≡ noRoomToGrow (load a (now (words .entry))) ⌝ }
 {
     let regions = parts::count(a, words, WhichList::ReservedRegions);
-    if parts::bound(a.sorted) <= regions {
+    if lists::bound(a.sorted) <= regions {
         return true;
     }
     if a.sorted {

@@ -35,6 +35,14 @@ same-form ReservedFree a = refl
 same-form GeneralRegions a = refl
 same-form ReservedRegions a = refl
 
+-- a list that stays as it is leaves the others as they are
+pub same-slots : (w : WhichList) (l : Lists) → withSlots w l (slotsAt w l) ≡ l
+unfolding withSlots slotsAt
+same-slots GeneralFree l = refl
+same-slots ReservedFree l = refl
+same-slots GeneralRegions l = refl
+same-slots ReservedRegions l = refl
+
 pub part-fits : (w : WhichList) → partOf w + 1024 ≤ 4096
 unfolding partOf
 part-fits GeneralFree = omega arith

@@ -5,7 +5,7 @@ ghost use Prim.Native.Nat.{_+_, _*_, _≤_, _<_};
 ghost use lib.ListN.{length};
 ghost use Rattle.memory_structs.specs.Range as range;
 ghost use Rattle.model.specs.Lists as model;
-ghost use Rattle.model.specs.Lists.{entries, rangeAt, anyOf, bound, inUnion};
+ghost use Rattle.model.specs.Lists.{entries, rangeAt, anyOf, inUnion};
 ghost use Rattle.model.specs.Rules.{slotted, tidy};
 ghost use Rattle.model.specs.Requests.{largeEnough};
 ghost use Rattle.model.specs.Store.{tableSlots};
@@ -141,7 +141,7 @@ pub fn remove(mut l: OneList, t: &mut [u64], i: usize, k: usize) -> OneList
 pub fn insert(mut l: OneList, t: &mut [u64], start: u64, end: u64) -> OneList
     requires { ⌜ IsList l (now t) ⌝ }
     requires { ⌜ slotted (l .sorted) (slotsIn l (now t)) ≡ true ⌝ }
-    requires { ⌜ length (entries (slotsIn l (now t))) < bound (l .sorted) ⌝ }
+    requires { ⌜ length (entries (slotsIn l (now t))) < model.bound (l .sorted) ⌝ }
     ensures { λ r. ⌜ Stored (l .sorted) (model.insert (l .sorted) (range.range start end) (slotsIn l (now (t .entry)))) (now (t .entry)) r (now (t .exit)) ⌝ }
 {
     if l.sorted {
@@ -151,4 +151,11 @@ pub fn insert(mut l: OneList, t: &mut [u64], start: u64, end: u64) -> OneList
     }
     l.early = early::insert(l.early, start, end);
     l
+}
+
+// "more than 32 (early) or 512 (sorted) entries"
+pub fn bound(sorted: bool) -> usize
+    ensures { λ r. ⌜ r ≡ model.bound sorted ⌝ }
+{
+    if sorted { 512 } else { 32 }
 }

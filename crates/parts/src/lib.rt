@@ -72,10 +72,3 @@ pub fn insert(
     let list = lists::insert(list, &mut words[from..from + 1024], start, end);
     lists::with_list(a, which, list)
 }
-
-// "more than 32 (early) or 512 (sorted) entries"
-pub fn bound(sorted: bool) -> usize
-    ensures { λ r. ⌜ r ≡ model.bound sorted ⌝ }
-{
-    if sorted { 512 } else { 32 }
-}

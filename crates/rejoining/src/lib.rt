@@ -100,7 +100,7 @@ fn add_chunk(l: OneList, t: &mut [u64], start: u64, end: u64) -> GivenBack
     ensures { λ r. ⌜ GoesBack (l .sorted) (range start end) (slotsIn l (now (t .entry))) (now (t .entry)) r (now (t .exit)) ⌝ }
 {
     let entries = lists::count(l, t) + 1;
-    if parts::bound(l.sorted) < entries {
+    if lists::bound(l.sorted) < entries {
         return GivenBack {
             placed: false,
             list: l,

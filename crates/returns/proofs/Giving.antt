@@ -12,8 +12,9 @@ use Rattle.model.specs.Store.{load, recordOf, wordsOf}
 use Rattle.model.specs.declared.Called.{Called}
 use Rattle.model.specs.declared.FrameAllocator.{FrameAllocator}
 use Rattle.lists.specs.declared.record.WhichList.{WhichList}
-use Rattle.lists.specs.declared.record.WhichList.the-variants.{GeneralFree, ReservedFree, GeneralRegions, ReservedRegions}
+use Rattle.lists.specs.declared.record.WhichList.the-variants.{GeneralFree, ReservedFree}
 use Rattle.lists.specs.Record.{slotsAt, withSlots, AllStored}
+use Rattle.lists.proofs.Whole.{same-slots}
 use Rattle.rules.specs.Check.{Ruled, Does, refusedWith, acceptedWith}
 use Rattle.rules.proofs.Going.{ruled-stands}
 use Rattle.rejoining.specs.Rejoins.{afterReturn}
@@ -65,14 +66,6 @@ module _ (r : FrameRange) (l : Lists) where
           pub in-neither : v ≡ false → giveBack r l ≡ refused 19 l
           unfolding giveBack
           in-neither q = rw (some, low, held, sym e ∙ h, sym p ∙ q)
-
--- a list that stays as it is leaves the others as they are
-same-slots : (w : WhichList) (l : Lists) → withSlots w l (slotsAt w l) ≡ l
-unfolding withSlots slotsAt
-same-slots GeneralFree l = refl
-same-slots ReservedFree l = refl
-same-slots GeneralRegions l = refl
-same-slots ReservedRegions l = refl
 
 -- what the list stores stands in the record and the words, with a place and without one
 module _ (w : WhichList) (r : FrameRange) (a : FrameAllocator) (ws : List ℕ) {b : FrameAllocator} {after : List ℕ}

@@ -1,20 +1,30 @@
 -- A grant from one list of the record: refused, or done.
-use Prim.Native.Nat.{ℕ, _≤_, _<_}
-use mathlib.Core.Path.{_≡_, refl, sym, ap, _∙_}
+use Prim.Native.Nat.{ℕ, _+_, _-_, _≤_, _<_}
+use mathlib.Core.Path.{_≡_, refl, sym, ap, subst, _∙_}
+use mathlib.Core.Bool.{Bool, true, false, not}
 use mathlib.Core.List.{List}
-use borrow.Author.Tests.{lt-ltb, le-ltb}
+use borrow.Author.Tests.{lt-ltb, le-ltb, ltb-true, ltb-false, not-true, not-false}
+use borrow.Rule.Slice.PartMut.{putMid}
 use Rattle.memory_structs.specs.Range.{range}
-use Rattle.model.specs.Lists.{Lists, bound}
+use Rattle.model.specs.Lists.{Lists, Slot, bound}
 use Rattle.model.specs.Requests.{Result, refused, granted, takeGeneral, takeReserved}
+use Rattle.model.specs.Rules.{tidy}
 use Rattle.model.specs.Store.{load, recordOf, wordsOf}
 use Rattle.model.specs.declared.Called.{Called}
 use Rattle.model.specs.declared.FrameAllocator.{FrameAllocator}
+use Rattle.lists.specs.declared.OneList.{OneList}
 use Rattle.lists.specs.declared.record.WhichList.{WhichList}
 use Rattle.lists.specs.declared.record.WhichList.the-variants.{GeneralFree, ReservedFree}
-use Rattle.lists.specs.Record.{slotsAt, withSlots, AllStored}
-use Rattle.rules.specs.Check.{Does}
+use Rattle.lists.specs.One.{IsList, slotsIn}
+use Rattle.lists.specs.Record.{listOf, partOf, slotsAt, withSlots, withList, AllStored}
+use Rattle.lists.proofs.Whole.{same-slots}
+use Rattle.lists.proofs.Lent.{lent, lent-list, lent-tidy, lent-has, lent-is, lent-back}
+use Rattle.rules.specs.Check.{Ruled, Does, refusedWith}
+use Rattle.rules.proofs.Going.{stores, ruled, ruled-stands, does-refuse}
 use Rattle.grants.specs.declared.Chosen.{Chosen}
-use Rattle.grants.specs.Grants.{grantOf, entriesLeft}
+use Rattle.grants.specs.declared.Taken.{Taken}
+use Rattle.grants.specs.Grants.{Chooses, grantOf, entriesLeft, overfull, afterGrant, TakesOut}
+use Rattle.grants.proofs.Placed.{after-none, after-grant}
 use Rattle.taking.specs.Takes.{taken, grantedWith}
 
 -- from the general list and from the reserved one, as the model has it
@@ -48,3 +58,43 @@ module _ (w : WhichList) (c : Chosen) (start end : ℕ) (a : FrameAllocator) (ws
   pub some-place : left ≤ bound (a .sorted) → taken w c start end (load a ws) ≡ granted (range start end) (withSlots w (load a ws) (grantOf (a .sorted) c start end (slotsAt w (load a ws))))
   unfolding taken load
   some-place h = rw (le-ltb (bound (a .sorted)) left h)
+
+-- what a list lends for a request, and what that leaves
+module _ (a : FrameAllocator) (ws : List ℕ) (u : Ruled a ws) (w : WhichList) (c : Chosen) (start end : ℕ) {n : ℕ} (p : n ≡ partOf w) {l : OneList} (q : l ≡ listOf w a) where
+  pub lent-asked : Chooses (a .sorted) (slotsAt w (load a ws)) c start end
+      → IsList l (lent n ws) × ((tidy (l .sorted) (slotsIn l (lent n ws)) ≡ true) × Chooses (l .sorted) (slotsIn l (lent n ws)) c start end)
+  lent-asked h =
+      let st = stores a ws u in (
+        lent-list a ws (u .long) st w p q,
+        (lent-tidy a ws (u .long) st w p q (ruled a ws u), lent-has a ws (u .long) st w p q (λ b s. Chooses b s c start end) h),
+      )
+
+  module _ (r : Taken) {after : List ℕ} (d : TakesOut (l .sorted) c start end (slotsIn l (lent n ws)) (lent n ws) r after) where
+    abbrev slots : List Slot
+    slots = slotsAt w (load a ws)
+
+    abbrev full : Bool
+    full = overfull (a .sorted) c start end slots
+
+    abbrev end-words : List ℕ
+    end-words = putMid n ((n + 1024) - n) ws after
+
+    placed-is : r .placed ≡ not full
+    placed-is = d .placed ∙ lent-is a ws (u .long) (stores a ws u) w p q (λ b s. not (overfull b c start end s))
+
+    stored-is : AllStored (withSlots w (load a ws) (afterGrant (a .sorted) c start end slots)) ws (withList w a (r .list)) end-words
+    stored-is = lent-back a ws (u .long) (stores a ws u) w p q (λ b s. afterGrant b c start end s) (d .stored)
+
+    stored-as : (s : List Slot) → afterGrant (a .sorted) c start end slots ≡ s → AllStored (withSlots w (load a ws) s) ws (withList w a (r .list)) end-words
+    stored-as s e = subst (λ (x : List Slot). AllStored (withSlots w (load a ws) x) ws (withList w a (r .list)) end-words) e stored-is
+
+    pub does-not-take : r .placed ≡ false → (called : Called) → called ≡ refusedWith 18 a → Does (taken w c start end (load a ws)) ws called end-words
+    does-not-take h called e =
+        let f : full ≡ true = not-false full (sym placed-is ∙ h) in
+        let same : ws ≡ end-words = ruled-stands a ws u .words ∙ sym (ap (λ (k : Lists). wordsOf k ws) (same-slots w (load a ws))) ∙ sym (stored-as slots (after-none (a .sorted) c start end slots f) .words) in
+        subst (Does (taken w c start end (load a ws)) ws called) same (does-refuse a ws u 18 called e _ (no-place w c start end a ws (ltb-true _ _ f)))
+
+    pub does-take : r .placed ≡ true → (called : Called) → called ≡ grantedWith start end (withList w a (r .list)) → Does (taken w c start end (load a ws)) ws called end-words
+    does-take h called e =
+        let f : full ≡ false = not-true full (sym placed-is ∙ h) in
+        does-grant start end called e (stored-as (grantOf (a .sorted) c start end slots) (after-grant (a .sorted) c start end slots f)) _ (some-place w c start end a ws (ltb-false _ _ f))

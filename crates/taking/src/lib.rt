@@ -70,28 +70,14 @@ pub fn take(
     requires { ⌜ Chooses (a .sorted) (slotsAt which (load a (now words))) chosen start end ⌝ }
     ensures { λ r. ⌜ Does (taken which chosen start end (load a (now (words .entry)))) (now (words .entry)) r (now (words .exit)) ⌝ }
 {
-    if parts::bound(a.sorted) < entries_after(a, words, which, chosen, start, end) {
-        return rules::refused(a, 18);
-    }
-    granted(take_out(a, words, which, chosen, start, end), start, end)
-}
-
-// How many entries the list has after the grant.
-fn entries_after(
-    a: FrameAllocator,
-    words: &[u64],
-    which: WhichList,
-    chosen: Chosen,
-    start: u64,
-    end: u64,
-) -> usize
-    requires { ⌜ Ruled a (now words) ⌝ }
-    requires { ⌜ Chooses (a .sorted) (slotsAt which (load a (now words))) chosen start end ⌝ }
-    ensures { λ r. ⌜ r ≡ entriesLeft (a .sorted) chosen start end (slotsAt which (load a (now (words .entry)))) ⌝ }
-{
     let from = lists::part_of(which);
     let list = lists::list_of(a, which);
-    grants::entries_after(list, &words[from..from + 1024], chosen, start, end)
+    let taken = grants::take(list, &mut words[from..from + 1024], chosen, start, end);
+    if !taken.placed {
+        return rules::refused(a, 18);
+    }
+    let after = taken.list;
+    granted(lists::with_list(a, which, after), start, end)
 }
 
 // The chunks without the frames from start to end; the other three lists stay as they are.

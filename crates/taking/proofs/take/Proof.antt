@@ -1,21 +1,40 @@
--- `take`: 18, or the grant.
+-- `take`: the request to the list, in its own part; 18, or the grant with the list put back.
 use native.Mathlib.Omega.{arith}
-use Prim.Native.Nat.{_≤_, _<_}
-use Rattle.model.specs.Lists.{bound}
-use Rattle.model.specs.Store.{load}
-use Rattle.lists.specs.Record.{slotsAt}
-use Rattle.grants.specs.Grants.{entriesLeft}
-use Rattle.rules.proofs.Going.{does-refuse}
-use Rattle.taking.proofs.Taken.{does-grant, no-place, some-place}
+use mathlib.Core.Path.{ap, _∙_}
+use borrow.Author.Tests.{not-true, not-false}
+use Rattle.lists.proofs.Whole.{lent-fits}
+use Rattle.taking.specs.Takes.{grantedWith}
+use Rattle.taking.proofs.Taken.{lent-asked, does-not-take, does-take}
 use borrow.Author.Needs.{needs}
 use Rattle.taking.proofs.take.Statement.{statement}
 use Rattle.taking.proofs.take.Tie as tie
 
-bound-requires : tie.Need-bound-requires
-bound-requires c κs = search needs
+part-of-requires : tie.Need-part-of-requires
+part-of-requires c κs = search needs
 
-entries-after-requires : tie.Need-entries-after-requires
-entries-after-requires c κs = search needs
+list-of-requires : tie.Need-list-of-requires
+list-of-requires c κs = search needs
+
+add-take : tie.Need-add-take
+add-take c = omega (arith, lent-fits _ _ (c .before .part-of .ensures))
+
+mul-take : tie.Need-mul-take
+mul-take c = omega (arith, lent-fits _ _ (c .before .part-of .ensures))
+
+sub-take : tie.Need-sub-take
+sub-take c = search needs
+
+part-take-start : tie.Need-part-take-start
+part-take-start c = search needs
+
+part-take-end : tie.Need-part-take-end
+part-take-end c = omega (arith, c .before .before .before .pre .0 .long, lent-fits _ _ (c .before .part-of .ensures))
+
+take-requires : tie.Need-take-requires
+take-requires c κs =
+    let s = c .before .before .before .before in
+    let a = s .args in
+    lent-asked (a .a) (a .words .now) (s .pre .0) (a .which) (a .chosen) (a .start) (a .end) (c .before .before .part-of .ensures) (c .before .list-of .ensures) (s .pre .1)
 
 refused-requires : tie.Need-refused-requires
 refused-requires c κs = search needs
@@ -25,21 +44,14 @@ same-length c = search needs
 
 returns : tie.Need-returns
 returns c =
-    let k = c .before .before in
-    let s = k .before .before .before .before in
+    let k = c .before .before .before .before .before in
+    let s = k .before .before .before .before .before in
     let a = s .args in
-    let many : bound (a .a .sorted) < entriesLeft (a .a .sorted) (a .chosen) (a .start) (a .end) (slotsAt (a .which) (load (a .a) (a .words .now))) = omega (arith, c .before .if1 .taken, k .entries-after .ensures, k .before .before .bound .ensures) in
-    does-refuse (a .a) (a .words .now) (s .pre .0) 18 _ (c .refused .ensures) _ (no-place (a .which) (a .chosen) (a .start) (a .end) (a .a) (a .words .now) many)
+    does-not-take (a .a) (a .words .now) (s .pre .0) (a .which) (a .chosen) (a .start) (a .end) (k .before .before .before .part-of .ensures) (k .before .before .list-of .ensures) (k .take .result) (k .take .ensures)
+    (not-true _ (c .before .if1 .taken)) _ (c .refused .ensures)
 
--- what is left has its place
-fits : (c : tie.Else1) → entriesLeft (c .before .before .before .before .before .args .a .sorted) (c .before .before .before .before .before .args .chosen) (c .before .before .before .before .before .args .start) (c .before .before .before .before .before .args .end)
-    (slotsAt (c .before .before .before .before .before .args .which) (load (c .before .before .before .before .before .args .a) (c .before .before .before .before .before .args .words .now))) ≤ bound (c .before .before .before .before .before .args .a .sorted)
-fits c = omega (arith, c .if1 .left, c .before .entries-after .ensures, c .before .before .before .bound .ensures)
-
-take-out-requires : tie.Need-take-out-requires
-take-out-requires c κs =
-    let s = c .before .before .before .before .before .before in
-    (s .pre .0, (s .pre .1, fits (c .before)))
+with-list-requires : tie.Need-with-list-requires
+with-list-requires c κs = search needs
 
 granted-requires : tie.Need-granted-requires
 granted-requires c κs = search needs
@@ -49,22 +61,28 @@ same-length-2 c = search needs
 
 returns-2 : tie.Need-returns-2
 returns-2 c =
-    let k = c .before .before .before in
-    let e = k .before .before in
-    let s = e .before .before .before .before .before in
+    let k = c .before .before .before .before .before .before .before in
+    let s = k .before .before .before .before .before in
     let a = s .args in
-    does-grant (a .start) (a .end) _ (c .granted .ensures) (k .take-out .ensures) _ (some-place (a .which) (a .chosen) (a .start) (a .end) (a .a) (a .words .now) (fits e))
+    does-take (a .a) (a .words .now) (s .pre .0) (a .which) (a .chosen) (a .start) (a .end) (k .before .before .before .part-of .ensures) (k .before .before .list-of .ensures) (k .take .result) (k .take .ensures)
+    (not-false _ (c .before .before .before .if1 .left)) _ (c .granted .ensures ∙ ap (grantedWith (a .start) (a .end)) (c .before .with-list .ensures))
 
 pub take-spec : {M : Type 1} → statement M
 take-spec =
     tie.close
     (tie.spec
-    bound-requires
-    entries-after-requires
+    part-of-requires
+    list-of-requires
+    add-take
+    mul-take
+    sub-take
+    part-take-start
+    part-take-end
+    take-requires
     refused-requires
     same-length
     returns
-    take-out-requires
+    with-list-requires
     granted-requires
     same-length-2
     returns-2)

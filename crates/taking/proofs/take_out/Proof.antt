@@ -4,9 +4,10 @@ use native.Mathlib.Omega.{arith}
 use mathlib.Core.Path.{_∙_}
 use Rattle.model.specs.Lists.{bound}
 use Rattle.lists.proofs.Whole.{lent-fits}
-use Rattle.lists.proofs.Lent.{lent-list, lent-tidy, lent-has, lent-back}
-use Rattle.grants.specs.Grants.{Chooses, grantOf, entriesLeft}
-use Rattle.rules.proofs.Going.{stores, ruled}
+use Rattle.lists.proofs.Lent.{lent-has, lent-back}
+use Rattle.grants.specs.Grants.{grantOf, entriesLeft}
+use Rattle.rules.proofs.Going.{stores}
+use Rattle.taking.proofs.Taken.{lent-asked}
 use borrow.Author.Needs.{needs}
 use Rattle.taking.proofs.take_out.Statement.{statement}
 use Rattle.taking.proofs.take_out.Tie as tie
@@ -35,17 +36,12 @@ part-allocate-from-chosen-chunk-end c = omega (arith, c .before .before .before 
 allocate-from-chosen-chunk-requires : tie.Need-allocate-from-chosen-chunk-requires
 allocate-from-chosen-chunk-requires c κs =
     let s = c .before .before .before .before in
+    let a = s .args in
     let p = c .before .before .part-of .ensures in
-    let l = c .before .list-of .ensures in (
-      lent-list (s .args .a) (s .args .words .now) (s .pre .0 .long) (stores (s .args .a) (s .args .words .now) (s .pre .0)) (s .args .which) p l,
-      (
-        lent-tidy (s .args .a) (s .args .words .now) (s .pre .0 .long) (stores (s .args .a) (s .args .words .now) (s .pre .0)) (s .args .which) p l (ruled (s .args .a) (s .args .words .now) (s .pre .0)),
-        (
-          lent-has (s .args .a) (s .args .words .now) (s .pre .0 .long) (stores (s .args .a) (s .args .words .now) (s .pre .0)) (s .args .which) p l (λ b x. Chooses b x (s .args .chosen) (s .args .start) (s .args .end)) (s .pre .1 .0),
-          lent-has (s .args .a) (s .args .words .now) (s .pre .0 .long) (stores (s .args .a) (s .args .words .now) (s .pre .0)) (s .args .which) p l (λ b x. entriesLeft b (s .args .chosen) (s .args .start) (s .args .end) x ≤ bound b) (s .pre .1 .1),
-        ),
-      ),
-    )
+    let l = c .before .list-of .ensures in
+    let k = lent-asked (a .a) (a .words .now) (s .pre .0) (a .which) (a .chosen) (a .start) (a .end) p l (s .pre .1 .0) in
+    let few = lent-has (a .a) (a .words .now) (s .pre .0 .long) (stores (a .a) (a .words .now) (s .pre .0)) (a .which) p l (λ b x. entriesLeft b (a .chosen) (a .start) (a .end) x ≤ bound b) (s .pre .1 .1) in
+    (k .0, (k .1 .0, (k .1 .1, few)))
 
 with-list-requires : tie.Need-with-list-requires
 with-list-requires c κs = search needs

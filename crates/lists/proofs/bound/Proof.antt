@@ -1,8 +1,8 @@
 -- `bound`: by the form.
 use mathlib.Core.Path.{sym, ap}
 use Rattle.model.specs.Lists.{bound}
-use Rattle.parts.proofs.bound.Statement.{statement}
-use Rattle.parts.proofs.bound.Tie as tie
+use Rattle.lists.proofs.bound.Statement.{statement}
+use Rattle.lists.proofs.bound.Tie as tie
 
 returns : tie.Need-returns
 unfolding bound
