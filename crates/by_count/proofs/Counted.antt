@@ -1,15 +1,20 @@
 -- Requests by count, test by test.
 use Prim.Native.Nat.{ℕ, _+_, _-_, _≤_, _<_}
 use native.Mathlib.Omega.{arith}
-use mathlib.Core.Path.{_≡_, refl, sym, ap, _∙_}
+use mathlib.Core.Path.{_≡_, refl, sym, ap, subst, _∙_}
+use mathlib.Core.Bool.{Bool, true}
+use mathlib.Core.List.{List}
 use borrow.Author.Tests.{eq-eqb, ne-eqb, lt-ltb, le-ltb}
-use Rattle.memory_structs.specs.Range.{range, addressLimit}
-use Rattle.model.specs.Lists.{Lists, rangeAt}
+use Rattle.memory_structs.specs.Range.{range, top, addressLimit}
+use Rattle.model.specs.Lists.{Lists, Slot, rangeAt}
 use Rattle.model.specs.declared.Place.{Place}
 use Rattle.model.specs.declared.Place.the-variants.{Nowhere, At}
 use Rattle.model.specs.Requests.{refused, takeGeneral, fromPlace, largeEnough, byCount, framesOf, byBytes}
+use Rattle.model.specs.Rules.{tidy}
 use Rattle.lists.specs.declared.record.WhichList.the-variants.{GeneralFree}
 use Rattle.grants.specs.declared.Chosen.{Chosen}
+use Rattle.grants.specs.Grants.{Chooses}
+use Rattle.chunks.proofs.Chosen.{place-chooses, place-low}
 use Rattle.taking.specs.Takes.{oneChunk, taken}
 use Rattle.taking.proofs.Taken.{general-taken}
 
@@ -44,3 +49,14 @@ place-taken l n i c end h e d =
     let e' : oneChunk i (rangeAt (l .generalFree) i) ≡ c = sym e in
     (λ j. takeGeneral l (e' j .first) (e' j .many) (range (e' j .start) (e' j .end)) (range (e' j .start) (k j)))
     ∙ sym (general-taken c (c .start) end l)
+
+-- it may be granted from, and its frames end at or below the top
+module _ (sorted : Bool) (s : List Slot) (n i : ℕ) (some : 0 < n) (e : largeEnough sorted n s ≡ At i) (c : Chosen) (p : c ≡ oneChunk i (rangeAt s i)) where
+  pub beginning-chosen : Chooses sorted s c (c .start) (c .start + (n - 1))
+  beginning-chosen =
+      let same : rangeAt s i .start + n - 1 ≡ rangeAt s i .start + (n - 1) = omega arith in
+      subst (λ (x : Chosen). Chooses sorted s x (x .start) (x .start + (n - 1))) (sym p)
+      (subst (λ (m : ℕ). Chooses sorted s (oneChunk i (rangeAt s i)) (rangeAt s i .start) m) same (place-chooses sorted s n i some e))
+
+  pub beginning-low : tidy sorted s ≡ true → c .start + n - 1 ≤ top
+  beginning-low t = subst (λ (x : Chosen). x .start + n - 1 ≤ top) (sym p) (place-low sorted s n i some e t)

@@ -3,9 +3,8 @@ ghost use mathlib.Core.Path.{_≡_};
 ghost use Prim.Native.Nat.{_+_, _*_, _≤_, _<_};
 ghost use lib.ListN.{length};
 ghost use Rattle.memory_structs.specs.Range.{addressLimit, frameSize};
-ghost use Rattle.model.specs.declared.Place.the-variants.{At};
 ghost use Rattle.model.specs.Lists.{rangeAt};
-ghost use Rattle.model.specs.Requests.{byCount, byBytes, fromPlace, framesOf, largeEnough};
+ghost use Rattle.model.specs.Requests.{byCount, byBytes, framesOf};
 ghost use Rattle.model.specs.Store.{load, tableSlots};
 ghost use Rattle.rules.specs.Check.{Ruled, Does};
 ghost use Rattle.lengths.specs.Tables.{tabled, TriedAs};
@@ -28,10 +27,16 @@ pub fn count_frames(a: FrameAllocator, words: &mut [u64], num_frames: u64) -> Ca
     if num_frames == 0 {
         return rules::refused(a, 1);
     }
-    match find_any_chunk(a, words, num_frames) {
-        Place::Nowhere => rules::refused(a, 14),
-        Place::At(i) => take_beginning(a, words, i, num_frames),
-    }
+    // The list leaves the record once, and comes back once: the record is large, and each function that takes it copies it.
+    let list = lists::list_of(a, WhichList::GeneralFree);
+    let found = lists::find_large(list, &words[0..1024], num_frames);
+    let Place::At(i) = found else {
+        return rules::refused(a, 14);
+    };
+    let chosen = taking::one_chunk(i, lists::entry(list, &words[0..1024], i));
+    let last = chosen.start + (num_frames - 1);
+    let taken = grants::take(list, &mut words[0..1024], chosen, chosen.start, last);
+    taking::put_back(a, WhichList::GeneralFree, taken, chosen.start, last)
 }
 
 // "Bytes: add to the bytes the remainder of the address by 4096 (0 where no address is named), divide by 4096, round up."
@@ -43,27 +48,6 @@ pub fn count_bytes(a: FrameAllocator, words: &mut [u64], num_bytes: u64) -> Call
         return rules::refused(a, 2);
     }
     count_frames(a, words, frames_of(num_bytes))
-}
-
-// The general chunk that a request for n frames is taken from.
-fn find_any_chunk(a: FrameAllocator, words: &[u64], n: u64) -> Place
-    requires { ⌜ Ruled a (now words) ⌝ }
-    ensures { λ r. ⌜ r ≡ largeEnough (a .sorted) n (load a (now (words .entry)) .generalFree) ⌝ }
-{
-    let list = lists::list_of(a, WhichList::GeneralFree);
-    lists::find_large(list, &words[0..1024], n)
-}
-
-// The first n frames of the general chunk at i.
-fn take_beginning(a: FrameAllocator, words: &mut [u64], i: usize, n: u64) -> Called
-    requires { ⌜ Ruled a (now words) ⌝ }
-    requires { ⌜ 0 < n ⌝ }
-    requires { ⌜ largeEnough (a .sorted) n (load a (now words) .generalFree) ≡ At i ⌝ }
-    ensures { λ r. ⌜ Does (fromPlace (load a (now (words .entry))) n (At i)) (now (words .entry)) r (now (words .exit)) ⌝ }
-{
-    let chosen = taking::chunk_at(a, words, WhichList::GeneralFree, i);
-    let end = chosen.start + (n - 1);
-    taking::take(a, words, WhichList::GeneralFree, chosen, chosen.start, end)
 }
 
 // "divide by 4096, round up"

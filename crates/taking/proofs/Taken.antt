@@ -6,6 +6,7 @@ use mathlib.Core.List.{List}
 use borrow.Author.Tests.{lt-ltb, le-ltb, ltb-true, ltb-false, not-true, not-false}
 use borrow.Rule.Slice.PartMut.{putMid}
 use Rattle.memory_structs.specs.Range.{range}
+use Rattle.memory_structs.proofs.Bools.{if-cases}
 use Rattle.model.specs.Lists.{Lists, Slot, bound}
 use Rattle.model.specs.Requests.{Result, refused, granted, takeGeneral, takeReserved}
 use Rattle.model.specs.Rules.{tidy}
@@ -25,7 +26,7 @@ use Rattle.grants.specs.declared.Chosen.{Chosen}
 use Rattle.grants.specs.declared.Taken.{Taken}
 use Rattle.grants.specs.Grants.{Chooses, grantOf, entriesLeft, overfull, afterGrant, TakesOut}
 use Rattle.grants.proofs.Placed.{after-none, after-grant}
-use Rattle.taking.specs.Takes.{taken, grantedWith}
+use Rattle.taking.specs.Takes.{taken, grantedWith, calledWith}
 
 -- from the general list and from the reserved one, as the model has it
 module _ (c : Chosen) (start end : ℕ) (l : Lists) where
@@ -88,13 +89,18 @@ module _ (a : FrameAllocator) (ws : List ℕ) (u : Ruled a ws) (w : WhichList) (
     stored-as : (s : List Slot) → afterGrant (a .sorted) c start end slots ≡ s → AllStored (withSlots w (load a ws) s) ws (withList w a (r .list)) end-words
     stored-as s e = subst (λ (x : List Slot). AllStored (withSlots w (load a ws) x) ws (withList w a (r .list)) end-words) e stored-is
 
-    pub does-not-take : r .placed ≡ false → (called : Called) → called ≡ refusedWith 18 a → Does (taken w c start end (load a ws)) ws called end-words
+    does-not-take : r .placed ≡ false → (called : Called) → called ≡ refusedWith 18 a → Does (taken w c start end (load a ws)) ws called end-words
     does-not-take h called e =
         let f : full ≡ true = not-false full (sym placed-is ∙ h) in
         let same : ws ≡ end-words = ruled-stands a ws u .words ∙ sym (ap (λ (k : Lists). wordsOf k ws) (same-slots w (load a ws))) ∙ sym (stored-as slots (after-none (a .sorted) c start end slots f) .words) in
         subst (Does (taken w c start end (load a ws)) ws called) same (does-refuse a ws u 18 called e _ (no-place w c start end a ws (ltb-true _ _ f)))
 
-    pub does-take : r .placed ≡ true → (called : Called) → called ≡ grantedWith start end (withList w a (r .list)) → Does (taken w c start end (load a ws)) ws called end-words
+    does-take : r .placed ≡ true → (called : Called) → called ≡ grantedWith start end (withList w a (r .list)) → Does (taken w c start end (load a ws)) ws called end-words
     does-take h called e =
         let f : full ≡ false = not-true full (sym placed-is ∙ h) in
         does-grant start end called e (stored-as (grantOf (a .sorted) c start end slots) (after-grant (a .sorted) c start end slots f)) _ (some-place w c start end a ws (ltb-false _ _ f))
+
+    pub does-called : (called : Called) → called ≡ calledWith w start end a r → Does (taken w c start end (load a ws)) ws called end-words
+    unfolding calledWith
+    does-called called e =
+        if-cases (λ (x : Called). called ≡ x → Does (taken w c start end (load a ws)) ws called end-words) (r .placed) (λ h. does-take h called) (λ h. does-not-take h called) e

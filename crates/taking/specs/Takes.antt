@@ -9,8 +9,10 @@ use Rattle.model.specs.Requests.{Result, refused, granted}
 use Rattle.model.specs.declared.Called.{Called}
 use Rattle.model.specs.declared.FrameAllocator.{FrameAllocator}
 use Rattle.lists.specs.declared.record.WhichList.{WhichList}
-use Rattle.lists.specs.Record.{slotsAt, withSlots}
+use Rattle.lists.specs.Record.{slotsAt, withSlots, withList}
+use Rattle.rules.specs.Check.{refusedWith}
 use Rattle.grants.specs.declared.Chosen.{Chosen}
+use Rattle.grants.specs.declared.Taken.{Taken}
 use Rattle.grants.specs.Grants.{grantOf, entriesLeft}
 
 -- one chunk, chosen
@@ -27,3 +29,7 @@ taken w c start end l =
 -- "An accepted call returns number 0, the granted range [..], frame 0", and count 0
 abbrev pub grantedWith : ℕ → ℕ → FrameAllocator → Called
 grantedWith start end a = record { answer = record { number = 0; range = range start end; frame = 0; count = 0 }; allocator = a }
+
+-- what the request answers by what its list says: 18, or the grant and the record with the list in its place
+unfoldable pub calledWith : WhichList → ℕ → ℕ → FrameAllocator → Taken → Called
+calledWith w start end a r = if r .placed then grantedWith start end (withList w a (r .list)) else refusedWith 18 a

@@ -12,9 +12,10 @@ ghost use Rattle.rules.specs.Check.{Ruled, Does};
 ghost use Rattle.lengths.specs.Tables.{tabled, TriedAs};
 ghost use Rattle.grants.specs.Grants.{Chooses, grantOf, entriesLeft};
 ghost use Rattle.chunks.specs.Searches.{foundOf};
-ghost use Rattle.taking.specs.Takes.{oneChunk, taken, grantedWith};
+ghost use Rattle.taking.specs.Takes.{oneChunk, taken, grantedWith, calledWith};
 use chunks::Search;
 use grants::Chosen;
+use grants::Taken;
 use lengths::Lengths;
 use lengths::Tried;
 use lists::WhichList;
@@ -48,7 +49,13 @@ pub fn chunk_at(a: FrameAllocator, words: &[u64], which: WhichList, i: usize) ->
 {
     let from = lists::part_of(which);
     let list = lists::list_of(a, which);
-    let chunk = lists::entry(list, &words[from..from + 1024], i);
+    one_chunk(i, lists::entry(list, &words[from..from + 1024], i))
+}
+
+// The chunk that is the slot at i, chosen.
+pub fn one_chunk(i: usize, chunk: FrameRange) -> Chosen
+    ensures { λ r. ⌜ r ≡ oneChunk i chunk ⌝ }
+{
     Chosen {
         first: i,
         many: 1,
@@ -73,6 +80,13 @@ pub fn take(
     let from = lists::part_of(which);
     let list = lists::list_of(a, which);
     let taken = grants::take(list, &mut words[from..from + 1024], chosen, start, end);
+    put_back(a, which, taken, start, end)
+}
+
+// What the request answers, by what its list says: 18, or the grant and the record with the list in its place.
+pub fn put_back(a: FrameAllocator, which: WhichList, taken: Taken, start: u64, end: u64) -> Called
+    ensures { λ r. ⌜ r ≡ calledWith which start end a taken ⌝ }
+{
     if !taken.placed {
         return rules::refused(a, 18);
     }

@@ -19,9 +19,8 @@ use Rattle.lengths.specs.Tables.{tabled, lengthAt}
 use Rattle.lengths.proofs.Tables.{lent-table, table-tidy, table-is, tried-not, tried-as}
 use Rattle.grants.specs.declared.Chosen.{Chosen}
 use Rattle.grants.specs.Grants.{Chooses}
-use Rattle.chunks.proofs.Chosen.{place-chooses, place-low}
 use Rattle.taking.specs.Takes.{oneChunk}
-use Rattle.by_count.proofs.Counted.{count-on, place-taken}
+use Rattle.by_count.proofs.Counted.{count-on, place-taken, beginning-chosen, beginning-low}
 use borrow.Author.Needs.{needs}
 use Rattle.by_count.proofs.count_in_tables.Statement.{statement}
 use Rattle.by_count.proofs.count_in_tables.Tie as tie
@@ -91,16 +90,16 @@ some c = omega (arith, c .before .before .before .before .before .if1 .left)
 found : (c : tie.After-found) → let s = c .before .before .before .before .before .before .before in largeEnough true (s .args .num-frames) (slots s) ≡ At (c .found .given .0 .0)
 found c = sym (c .before .before .highest-large .ensures) ∙ c .found .given .1
 
-chooses : (c : tie.After-found) → let s = c .before .before .before .before .before .before .before in
-    Chooses true (slots s) (oneChunk (c .found .given .0 .0) (rangeAt (slots s) (c .found .given .0 .0))) (rangeAt (slots s) (c .found .given .0 .0) .start) (rangeAt (slots s) (c .found .given .0 .0) .start + s .args .num-frames - 1)
-chooses c = let s = c .before .before .before .before .before .before .before in place-chooses true (slots s) (s .args .num-frames) (c .found .given .0 .0) (some c) (found c)
+chosen : (c : tie.After-found) → let s = c .before .before .before .before .before .before .before in
+    (x : Chosen) → x ≡ oneChunk (c .found .given .0 .0) (rangeAt (slots s) (c .found .given .0 .0)) → Chooses true (slots s) x (x .start) (x .start + (s .args .num-frames - 1))
+chosen c = let s = c .before .before .before .before .before .before .before in beginning-chosen true (slots s) (s .args .num-frames) (c .found .given .0 .0) (some c) (found c)
 
 pair-at-requires : tie.Need-pair-at-requires
 pair-at-requires c κs =
     let f = c .before .before .before in
     let s = f .before .before .before .before .before .before .before in
     let t = the-table s in
-    (omega (arith, chooses f .in-list, table-length (s .args .n .«general_free») (lent 0 (s .args .words .now))), omega (arith, t .fits, t .size))
+    (omega (arith, chosen f _ refl .in-list, table-length (s .args .n .«general_free») (lent 0 (s .args .words .now))), omega (arith, t .fits, t .size))
 
 sub-end : tie.Need-sub-end
 sub-end c = omega (arith, some (c .before .before .before .before))
@@ -110,7 +109,7 @@ low : (c : tie.After-pair-at) → c .pair-at .result .start + c .before .before 
 low c =
     let f = c .before .before .before .before in
     let s = f .before .before .before .before .before .before .before in
-    subst (λ (x : Chosen). x .start + s .args .num-frames - 1 ≤ top) (sym (c .pair-at .ensures)) (place-low true (slots s) (s .args .num-frames) (f .found .given .0 .0) (some f) (found f) (tidied s))
+    beginning-low true (slots s) (s .args .num-frames) (f .found .given .0 .0) (some f) (found f) (c .pair-at .result) (c .pair-at .ensures) (tidied s)
 
 add-end : tie.Need-add-end
 add-end c = omega (arith, low (c .before))
@@ -121,12 +120,7 @@ take-from-tables-requires c κs =
     let k = c .before .before in
     let f = k .before .before .before .before in
     let s = f .before .before .before .before .before .before .before in
-    let end : k .pair-at .result .start + (s .args .num-frames - 1) ≡ k .pair-at .result .start + s .args .num-frames - 1 = omega (arith, some f) in (
-      s .pre,
-      subst (λ (x : List Slot). Chooses true x (k .pair-at .result) (k .pair-at .result .start) (k .pair-at .result .start + (s .args .num-frames - 1))) (same s)
-          (subst (λ (e : ℕ). Chooses true (slots s) (k .pair-at .result) (k .pair-at .result .start) e) (sym end)
-          (subst (λ (x : Chosen). Chooses true (slots s) x (x .start) (x .start + s .args .num-frames - 1)) (sym (k .pair-at .ensures)) (chooses f))),
-    )
+    (s .pre, subst (λ (x : List Slot). Chooses true x (k .pair-at .result) (k .pair-at .result .start) (k .pair-at .result .start + (s .args .num-frames - 1))) (same s) (chosen f (k .pair-at .result) (k .pair-at .ensures)))
 
 same-length-2 : tie.Need-same-length-2
 same-length-2 c = search needs

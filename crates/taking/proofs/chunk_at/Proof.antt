@@ -42,10 +42,15 @@ entry-requires c κs =
       omega (arith, lent-is (s .args .a) (s .args .words .now) (s .pre .0 .long) w (s .args .which) p l (λ b x. length x), s .pre .1),
     )
 
+one-chunk-requires : tie.Need-one-chunk-requires
+one-chunk-requires c κs = search needs
+
 returns : tie.Need-returns
 returns c =
-    let s = c .before .before .before .before .before in
-    ap (oneChunk (s .args .i)) (c .entry .ensures ∙ lent-is (s .args .a) (s .args .words .now) (s .pre .0 .long) (stores (s .args .a) (s .args .words .now) (s .pre .0)) (s .args .which) (c .before .before .before .part-of .ensures) (c .before .before .list-of .ensures) (λ b x. rangeAt x (s .args .i)))
+    let e = c .before in
+    let s = e .before .before .before .before .before in
+    c .one-chunk .ensures
+    ∙ ap (oneChunk (s .args .i)) (e .entry .ensures ∙ lent-is (s .args .a) (s .args .words .now) (s .pre .0 .long) (stores (s .args .a) (s .args .words .now) (s .pre .0)) (s .args .which) (e .before .before .before .part-of .ensures) (e .before .before .list-of .ensures) (λ b x. rangeAt x (s .args .i)))
 
 pub chunk-at-spec : {M : Type 1} → statement M
 chunk-at-spec =
@@ -59,4 +64,5 @@ chunk-at-spec =
     part-entry-start
     part-entry-end
     entry-requires
+    one-chunk-requires
     returns)

@@ -1,10 +1,7 @@
--- `take`: the request to the list, in its own part; 18, or the grant with the list put back.
+-- `take`: the request to the list, in its own part.
 use native.Mathlib.Omega.{arith}
-use mathlib.Core.Path.{ap, _∙_}
-use borrow.Author.Tests.{not-true, not-false}
 use Rattle.lists.proofs.Whole.{lent-fits}
-use Rattle.taking.specs.Takes.{grantedWith}
-use Rattle.taking.proofs.Taken.{lent-asked, does-not-take, does-take}
+use Rattle.taking.proofs.Taken.{lent-asked, does-called}
 use borrow.Author.Needs.{needs}
 use Rattle.taking.proofs.take.Statement.{statement}
 use Rattle.taking.proofs.take.Tie as tie
@@ -36,36 +33,18 @@ take-requires c κs =
     let a = s .args in
     lent-asked (a .a) (a .words .now) (s .pre .0) (a .which) (a .chosen) (a .start) (a .end) (c .before .before .part-of .ensures) (c .before .list-of .ensures) (s .pre .1)
 
-refused-requires : tie.Need-refused-requires
-refused-requires c κs = search needs
+put-back-requires : tie.Need-put-back-requires
+put-back-requires c κs = search needs
 
 same-length : tie.Need-same-length
 same-length c = search needs
 
 returns : tie.Need-returns
 returns c =
-    let k = c .before .before .before .before .before in
+    let k = c .before .before .before in
     let s = k .before .before .before .before .before in
     let a = s .args in
-    does-not-take (a .a) (a .words .now) (s .pre .0) (a .which) (a .chosen) (a .start) (a .end) (k .before .before .before .part-of .ensures) (k .before .before .list-of .ensures) (k .take .result) (k .take .ensures)
-    (not-true _ (c .before .if1 .taken)) _ (c .refused .ensures)
-
-with-list-requires : tie.Need-with-list-requires
-with-list-requires c κs = search needs
-
-granted-requires : tie.Need-granted-requires
-granted-requires c κs = search needs
-
-same-length-2 : tie.Need-same-length-2
-same-length-2 c = search needs
-
-returns-2 : tie.Need-returns-2
-returns-2 c =
-    let k = c .before .before .before .before .before .before .before in
-    let s = k .before .before .before .before .before in
-    let a = s .args in
-    does-take (a .a) (a .words .now) (s .pre .0) (a .which) (a .chosen) (a .start) (a .end) (k .before .before .before .part-of .ensures) (k .before .before .list-of .ensures) (k .take .result) (k .take .ensures)
-    (not-false _ (c .before .before .before .if1 .left)) _ (c .granted .ensures ∙ ap (grantedWith (a .start) (a .end)) (c .before .with-list .ensures))
+    does-called (a .a) (a .words .now) (s .pre .0) (a .which) (a .chosen) (a .start) (a .end) (k .before .before .before .part-of .ensures) (k .before .before .list-of .ensures) (k .take .result) (k .take .ensures) _ (c .put-back .ensures)
 
 pub take-spec : {M : Type 1} → statement M
 take-spec =
@@ -79,10 +58,6 @@ take-spec =
     part-take-start
     part-take-end
     take-requires
-    refused-requires
+    put-back-requires
     same-length
-    returns
-    with-list-requires
-    granted-requires
-    same-length-2
-    returns-2)
+    returns)
