@@ -7,7 +7,7 @@
 //! What is proved is the library underneath (docs/CLAIMS.md). This crate turns its answers into types, and has tests. Its `unsafe` is the
 //! calls of the library, and slices of structs seen as words; each has its reason beside it.
 //!
-//! A call takes up to 42 KB of stack (a run; a request 38 KB, a return 22 KB, any other call 12 KB; measured, not proved). The library
+//! A call takes up to 48 KB of stack (a run; a request 44 KB, a return 22 KB, any other call 14 KB; measured, not proved). The library
 //! uses SSE2 registers and the red zone.
 
 #![no_std]
