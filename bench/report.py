@@ -61,7 +61,7 @@ LEFT_OVER = """Why these are missed; what has been mended is in [DECISIONS.md](D
   list puts the slots in order first. It doesn't grow: a list has 32 slots. Early form is for the calls between boot and sort.
 - **A checked call on short lists.** Where the test is short, the copies of the record show: in, to the test, to the call, out, back.
 - **A boot of two areas.** It makes a record whatever the areas are, 23 KB of copies of it and of lists of 32 ranges. With 32 areas and more
-  a boot takes no longer than the Rust's.
+  a boot takes as long as the Rust's or less.
 - **A sort of few entries.** It clears all four tables, 32 KB.
 - **A held list of few runs in sorted form.** A call of a run reads three words and writes five, and the plain walk does neither.
 """
