@@ -27,7 +27,7 @@ pub fn count_frames(a: FrameAllocator, words: &mut [u64], num_frames: u64) -> Ca
     if num_frames == 0 {
         return rules::refused(a, 1);
     }
-    // The list leaves the record once, and comes back once: the record is large, and each function that takes it copies it.
+    // The list leaves the record once, and comes back once at most: the record is large, and each function that takes it copies it.
     let list = lists::list_of(a, WhichList::GeneralFree);
     let found = lists::find_large(list, &words[0..1024], num_frames);
     let Place::At(i) = found else {

@@ -96,7 +96,7 @@ fn early_list(l: RangeList) -> EarlyList
     let mut slots = lists::unused_slots();
     let mut i = 0;
     while i < l.len {
-        // Written in place: `early::fill` would copy the slots for each range.
+        // Written in place: handed over and back, the slots would be copied for each range.
         slots.starts[i] = l.starts[i];
         slots.ends[i] = l.ends[i];
         slots.used[i] = true;
