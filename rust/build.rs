@@ -1,4 +1,4 @@
-//! Links the archive that `rt staticlib exports` writes. `LIKHMOUT_LIB_DIR` names its folder where that is another one.
+//! Links the static library. `LIKHMOUT_LIB_DIR` names its folder where that is not `target/staticlib` of the repository.
 
 use std::env;
 use std::path::PathBuf;
@@ -7,9 +7,15 @@ fn main() {
     let here = env::var("CARGO_MANIFEST_DIR").expect("cargo sets it");
     let beside = PathBuf::from(here).join("../target/staticlib");
     let folder = env::var_os("LIKHMOUT_LIB_DIR").map_or(beside, PathBuf::from);
+    let library = folder.join("libexports.a");
     println!("cargo:rustc-link-search=native={}", folder.display());
     println!("cargo:rustc-link-lib=static=exports");
-    println!("cargo:rerun-if-changed={}", folder.join("libexports.a").display());
+    println!("cargo:rustc-check-cfg=cfg(no_library)");
+    println!("cargo:rustc-env=LIKHMOUT_LIBRARY={}", library.display());
+    if !library.is_file() {
+        println!("cargo:rustc-cfg=no_library");
+    }
+    println!("cargo:rerun-if-changed={}", library.display());
     println!("cargo:rerun-if-env-changed=LIKHMOUT_LIB_DIR");
     println!("cargo:rerun-if-changed=build.rs");
 }

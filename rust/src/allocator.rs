@@ -5,6 +5,7 @@ use crate::raw;
 use crate::refusal::Refusal;
 use crate::run::{Answer, Call, Ran, RunEnd};
 use crate::words::{self, Words};
+use crate::workspace::Workspace;
 use core::slice;
 
 /// Whether memory is for any use, or handed out only at an address that is named.
@@ -52,6 +53,32 @@ impl From<ByteArea> for [u64; 3] {
 }
 
 /// A record with its workspace. A workspace of fewer than [`crate::WORKSPACE_WORDS`] words is refused by every call, with 3.
+///
+/// Grants are plain numbers here, which anybody can copy, so a return is `unsafe`. [`crate::Shared`] returns in safe code.
+///
+/// ```compile_fail,E0133
+/// # use likhmout::{Allocator, Refusal, WORKSPACE_WORDS};
+/// fn twice(allocator: &mut Allocator<[u64; WORKSPACE_WORDS]>) -> Result<(), Refusal> {
+///     let page = allocator.allocate_frames(4)?;
+///     allocator.return_frames(page)?;
+///     let next = allocator.allocate_frames(4)?; // the same four frames
+///     allocator.return_frames(page) // whose are they?
+/// }
+/// ```
+///
+/// The words are the allocator's alone, so a workspace of one's own making needs `unsafe` too: [`Workspace`].
+///
+/// ```compile_fail,E0277
+/// # use likhmout::Allocator;
+/// struct Words([u64; 4096]);
+/// impl AsRef<[u64]> for Words {
+///     fn as_ref(&self) -> &[u64] { &self.0 }
+/// }
+/// impl AsMut<[u64]> for Words {
+///     fn as_mut(&mut self) -> &mut [u64] { &mut self.0 }
+/// }
+/// let allocator = Allocator::new(Words([0; 4096]));
+/// ```
 pub struct Allocator<W> {
     record: raw::FrameAllocator,
     workspace: W,
@@ -59,7 +86,7 @@ pub struct Allocator<W> {
 
 // SAFETY of the calls: the record is ours, and its flags are `bool`s. Words and numbers may be any. A slice's pointer and length go
 // together, and no two of those that a call is lent overlap, since they are borrowed here.
-impl<W: AsRef<[u64]> + AsMut<[u64]>> Allocator<W> {
+impl<W: Workspace> Allocator<W> {
     /// A fresh record, which has no frames until it is booted. The words may be any.
     pub fn new(workspace: W) -> Self {
         let record = unsafe { raw::likhmout_fresh() };
@@ -73,13 +100,13 @@ impl<W: AsRef<[u64]> + AsMut<[u64]>> Allocator<W> {
 
     /// The test that every call makes first: 3 where the workspace is short, 11 where somebody else wrote to it.
     pub fn check(&self) -> Result<(), Refusal> {
-        let words = self.workspace.as_ref();
+        let words = self.workspace.words();
         let number = unsafe { raw::likhmout_check(&self.record, words.as_ptr(), words.len()) };
         Answer { number, ..Answer::BLANK }.accepted().map(|_| ())
     }
 
     pub fn init(&mut self, areas: &[Area]) -> Result<(), Refusal> {
-        let (words, areas) = (self.workspace.as_ref(), words::of(areas));
+        let (words, areas) = (self.workspace.words(), words::of(areas));
         let answer = unsafe {
             raw::likhmout_init(
                 &mut self.record,
@@ -93,7 +120,7 @@ impl<W: AsRef<[u64]> + AsMut<[u64]>> Allocator<W> {
     }
 
     pub fn init_from_bytes(&mut self, areas: &[ByteArea]) -> Result<(), Refusal> {
-        let (words, areas) = (self.workspace.as_ref(), words::of(areas));
+        let (words, areas) = (self.workspace.words(), words::of(areas));
         let answer = unsafe {
             raw::likhmout_init_from_bytes(
                 &mut self.record,
@@ -108,7 +135,7 @@ impl<W: AsRef<[u64]> + AsMut<[u64]>> Allocator<W> {
 
     /// From early to sorted form, in which the lists are in the workspace.
     pub fn convert_frame_allocator_to_heap_based(&mut self) -> Result<(), Refusal> {
-        let words = self.workspace.as_mut();
+        let words = self.workspace.words_mut();
         let answer = unsafe {
             raw::likhmout_convert_frame_allocator_to_heap_based(
                 &mut self.record,
@@ -124,7 +151,7 @@ impl<W: AsRef<[u64]> + AsMut<[u64]>> Allocator<W> {
         &mut self,
         request: impl FnOnce(*mut raw::FrameAllocator, *mut u64, usize) -> Answer,
     ) -> Result<FrameRange, Refusal> {
-        let words = self.workspace.as_mut();
+        let words = self.workspace.words_mut();
         let answer = request(&mut self.record, words.as_mut_ptr(), words.len());
         answer.accepted().map(|accepted| accepted.range)
     }
@@ -177,8 +204,13 @@ impl<W: AsRef<[u64]> + AsMut<[u64]>> Allocator<W> {
     }
 
     /// The frames of the range are free again.
-    pub fn return_frames(&mut self, range: FrameRange) -> Result<(), Refusal> {
-        let words = self.workspace.as_mut();
+    ///
+    /// # Safety
+    ///
+    /// Whoever these frames were granted to has let go of them, and returns them once. A frame that is free is refused (19), but one that
+    /// was granted again meanwhile is taken from its new holder, and then granted twice.
+    pub unsafe fn return_frames(&mut self, range: FrameRange) -> Result<(), Refusal> {
+        let words = self.workspace.words_mut();
         let answer = unsafe {
             raw::likhmout_return_frames(
                 &mut self.record,
@@ -193,7 +225,7 @@ impl<W: AsRef<[u64]> + AsMut<[u64]>> Allocator<W> {
 
     /// Reserved where any frame of the range is in a reserved region.
     pub fn kind_of_range(&self, range: FrameRange) -> Result<Kind, Refusal> {
-        let words = self.workspace.as_ref();
+        let words = self.workspace.words();
         let answer = unsafe {
             raw::likhmout_kind_of_range(
                 &self.record,
@@ -209,7 +241,7 @@ impl<W: AsRef<[u64]> + AsMut<[u64]>> Allocator<W> {
 
     /// How many frames of the kind are free.
     pub fn free_total(&self, kind: Kind) -> Result<u64, Refusal> {
-        let words = self.workspace.as_ref();
+        let words = self.workspace.words();
         let answer = unsafe {
             raw::likhmout_free_total(&self.record, words.as_ptr(), words.len(), kind as u64)
         };
@@ -219,7 +251,7 @@ impl<W: AsRef<[u64]> + AsMut<[u64]>> Allocator<W> {
     /// The maximal runs of general frames that are not free, at the beginning of the buffer, in an order that document 01 leaves
     /// open. A buffer of fewer than [`crate::HELD_WORDS`] words is refused with 3.
     pub fn held_list<'b>(&self, buffer: &'b mut [u64]) -> Result<&'b [FrameRange], Refusal> {
-        let words = self.workspace.as_ref();
+        let words = self.workspace.words();
         let answer = unsafe {
             raw::likhmout_held_list(
                 &self.record,
@@ -248,7 +280,7 @@ impl<W: AsRef<[u64]> + AsMut<[u64]>> Allocator<W> {
         let areas = areas.as_flattened();
         // SAFETY: each word of an answer may be any.
         let room = unsafe { words::of_mut(answers) };
-        let workspace = self.workspace.as_mut();
+        let workspace = self.workspace.words_mut();
         let counts = unsafe {
             raw::likhmout_run(
                 &mut self.record,

@@ -62,7 +62,7 @@ fn range_at(out: &[u64], at: usize) -> FrameRange {
 
 // SAFETY of the calls: the numbers may be any, and `out` has the length that the signature says.
 impl FrameRange {
-    /// "The empty range is the constant [1,0]."
+    /// "The empty range is the constant `[1,0]`."
     pub const EMPTY: FrameRange = FrameRange { start: 1, end: 0 };
 
     pub const fn new(start: u64, end: u64) -> FrameRange {

@@ -6,7 +6,7 @@ use core::mem::{offset_of, size_of};
 
 pub const SLOTS: usize = 32;
 
-/// A list in early form. A slot that is not used holds [1,0].
+/// A list in early form. A slot that is not used holds `[1,0]`.
 #[repr(C)]
 #[derive(Clone, Copy)]
 pub struct EarlyList {

@@ -10,9 +10,9 @@ use crate::words::Words;
 #[repr(C)]
 #[derive(Clone, Copy, Debug, PartialEq, Eq)]
 pub struct Call {
-    pub what: u64,
-    pub x: u64,
-    pub y: u64,
+    what: u64,
+    x: u64,
+    y: u64,
 }
 
 // SAFETY: three words.
@@ -57,7 +57,11 @@ impl Call {
         Call::of(7, frame, num_frames)
     }
 
-    pub const fn return_frames(range: FrameRange) -> Call {
+    /// # Safety
+    ///
+    /// As for [`Allocator::return_frames`](crate::Allocator::return_frames): when the call is made, and each time that it is made, whoever these
+    /// frames were granted to has let go of them.
+    pub const unsafe fn return_frames(range: FrameRange) -> Call {
         Call::of(8, range.start, range.end)
     }
 
@@ -123,7 +127,7 @@ impl Answer {
 pub enum RunEnd {
     /// Every call was made.
     Done,
-    /// The next call is none: an unknown word, or areas that are not in the list.
+    /// The next call is none: it is a boot, and its areas are not in the list.
     Damaged,
     /// There is no room for the next call's answer.
     NoRoom,

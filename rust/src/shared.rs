@@ -3,41 +3,106 @@
 use crate::allocator::{Allocator, Kind};
 use crate::range::FrameRange;
 use crate::refusal::Refusal;
+use crate::workspace::Workspace;
 use core::cell::{Cell, RefCell};
 use core::{fmt, mem};
 
 /// An allocator behind a shared reference, for one thread.
+///
+/// What it grants borrows it, so as long as [`Frames`] or [`Kept`] of it are about it can be neither moved nor taken apart, exchanged for
+/// another allocator, or ended:
+///
+/// ```compile_fail,E0505
+/// # use likhmout::{Refusal, Shared, WORKSPACE_WORDS};
+/// fn apart(shared: Shared<[u64; WORKSPACE_WORDS]>) -> Result<(), Refusal> {
+///     let page = shared.allocate_frames(4)?;
+///     let allocator = shared.into_allocator();
+///     drop(page);
+///     Ok(())
+/// }
+/// ```
+///
+/// ```compile_fail,E0502
+/// # use likhmout::{Refusal, Shared, WORKSPACE_WORDS};
+/// # use std::mem;
+/// type Board = Shared<[u64; WORKSPACE_WORDS]>;
+/// fn exchanged(a: &mut Board, b: &mut Board) -> Result<(), Refusal> {
+///     let kept = a.allocate_frames(4)?.keep();
+///     mem::swap(a, b);
+///     kept.give_back().map_err(|(_, refusal)| refusal)
+/// }
+/// ```
+///
+/// ```compile_fail,E0515
+/// # use likhmout::{Frames, Refusal, Shared, WORKSPACE_WORDS};
+/// type Words = [u64; WORKSPACE_WORDS];
+/// fn outlives<'a>(shared: Shared<Words>) -> Result<Frames<'a, Words>, Refusal> {
+///     shared.allocate_frames(4)
+/// }
+/// ```
+///
+/// Once they are gone, it can:
+///
+/// ```
+/// # use likhmout::{Refusal, Shared, WORKSPACE_WORDS};
+/// # use std::mem;
+/// type Board = Shared<[u64; WORKSPACE_WORDS]>;
+/// fn exchanged(a: &mut Board, b: &mut Board) -> Result<(), Refusal> {
+///     let kept = a.allocate_frames(4)?.keep();
+///     kept.give_back().map_err(|(_, refusal)| refusal)?;
+///     mem::swap(a, b);
+///     Ok(())
+/// }
+/// ```
 pub struct Shared<W> {
     allocator: RefCell<Allocator<W>>,
     refused_returns: Cell<u64>,
 }
 
-/// Granted frames, which are returned when this is dropped.
+/// Granted frames, which are returned when this is dropped. Where it is forgotten (`mem::forget`) they stay held for good.
+///
+/// Nothing else returns them, so they can't be returned and used:
+///
+/// ```compile_fail,E0382
+/// # use likhmout::{Refusal, Shared, WORKSPACE_WORDS};
+/// fn used_after(shared: &Shared<[u64; WORKSPACE_WORDS]>) -> Result<(), Refusal> {
+///     let page = shared.allocate_frames(4)?;
+///     drop(page);
+///     let next = shared.allocate_frames(4)?; // the same four frames
+///     println!("{:?}", page.range());
+///     Ok(())
+/// }
+/// ```
 #[must_use = "frames that are dropped are returned"]
-pub struct Frames<'a, W: AsRef<[u64]> + AsMut<[u64]>> {
+pub struct Frames<'a, W: Workspace> {
     shared: &'a Shared<W>,
     range: FrameRange,
 }
 
-/// Granted frames that are not returned when this is dropped. There is one of them for each grant, so that frames are returned once.
-#[derive(Debug, PartialEq, Eq)]
-pub struct Kept {
+/// Granted frames that are not returned when this is dropped; then they stay held for good. There is one of them for each grant, and it
+/// borrows the allocator that granted them, so that they go back there, and once.
+///
+/// ```compile_fail,E0599
+/// # use likhmout::{Refusal, Shared, WORKSPACE_WORDS};
+/// fn copied(shared: &Shared<[u64; WORKSPACE_WORDS]>) -> Result<(), Refusal> {
+///     let kept = shared.allocate_frames(4)?.keep();
+///     let copy = kept.clone();
+///     Ok(())
+/// }
+/// ```
+#[must_use = "what was kept and is dropped stays held for good"]
+pub struct Kept<'a, W: Workspace> {
+    shared: &'a Shared<W>,
     range: FrameRange,
 }
 
-impl Kept {
-    pub fn range(&self) -> FrameRange {
-        self.range
-    }
-}
-
-impl<W: AsRef<[u64]> + AsMut<[u64]>> Shared<W> {
+impl<W: Workspace> Shared<W> {
     /// An allocator that was booted.
     pub fn new(allocator: Allocator<W>) -> Self {
         Shared { allocator: RefCell::new(allocator), refused_returns: Cell::new(0) }
     }
 
-    /// The allocator. Its frames were dropped or kept before, as they borrow from here.
+    /// The allocator. Nothing borrows from here any more; what was kept or forgotten is still held.
     pub fn into_allocator(self) -> Allocator<W> {
         self.allocator.into_inner()
     }
@@ -86,15 +151,6 @@ impl<W: AsRef<[u64]> + AsMut<[u64]>> Shared<W> {
         self.allocator.borrow_mut().convert_frame_allocator_to_heap_based()
     }
 
-    /// The frames are free again. Where that is refused they are handed back, still held.
-    pub fn return_frames(&self, kept: Kept) -> Result<(), (Kept, Refusal)> {
-        self.returned(kept.range).map_err(|refusal| (kept, refusal))
-    }
-
-    fn returned(&self, range: FrameRange) -> Result<(), Refusal> {
-        self.allocator.borrow_mut().return_frames(range)
-    }
-
     pub fn kind_of_range(&self, range: FrameRange) -> Result<Kind, Refusal> {
         self.allocator.borrow().kind_of_range(range)
     }
@@ -113,40 +169,63 @@ impl<W: AsRef<[u64]> + AsMut<[u64]>> Shared<W> {
     }
 }
 
-impl<W: AsRef<[u64]> + AsMut<[u64]>> Frames<'_, W> {
+impl<'a, W: Workspace> Frames<'a, W> {
     pub fn range(&self) -> FrameRange {
         self.range
     }
 
     /// The frames stay held, and are not returned by being dropped.
-    pub fn keep(self) -> Kept {
-        let range = self.range;
+    pub fn keep(self) -> Kept<'a, W> {
+        let kept = Kept { shared: self.shared, range: self.range };
         mem::forget(self);
-        Kept { range }
+        kept
     }
 
     /// Returns them now. Where that is refused they are handed back, still held.
     pub fn give_back(self) -> Result<(), (Self, Refusal)> {
-        match self.shared.returned(self.range) {
-            Ok(()) => {
-                mem::forget(self);
-                Ok(())
-            }
-            Err(refusal) => Err((self, refusal)),
-        }
+        self.keep().give_back().map_err(|(kept, refusal)| (kept.into(), refusal))
     }
 }
 
-impl<W: AsRef<[u64]> + AsMut<[u64]>> Drop for Frames<'_, W> {
+impl<W: Workspace> Drop for Frames<'_, W> {
     fn drop(&mut self) {
-        if self.shared.returned(self.range).is_err() {
-            self.shared.refused_returns.set(self.shared.refused_returns.get() + 1);
+        let Frames { shared, range } = *self;
+        if (Kept { shared, range }).give_back().is_err() {
+            shared.refused_returns.set(shared.refused_returns.get() + 1);
         }
     }
 }
 
-impl<W: AsRef<[u64]> + AsMut<[u64]>> fmt::Debug for Frames<'_, W> {
+impl<W: Workspace> Kept<'_, W> {
+    pub fn range(&self) -> FrameRange {
+        self.range
+    }
+
+    /// Returns them to the allocator that granted them. Where that is refused they are handed back, still held.
+    pub fn give_back(self) -> Result<(), (Self, Refusal)> {
+        let mut allocator = self.shared.allocator.borrow_mut();
+        // SAFETY: this is the only one for the frames of its grant, it is of this allocator, and it ends here.
+        let returned = unsafe { allocator.return_frames(self.range) };
+        drop(allocator);
+        returned.map_err(|refusal| (self, refusal))
+    }
+}
+
+/// They return themselves again.
+impl<'a, W: Workspace> From<Kept<'a, W>> for Frames<'a, W> {
+    fn from(Kept { shared, range }: Kept<'a, W>) -> Frames<'a, W> {
+        Frames { shared, range }
+    }
+}
+
+impl<W: Workspace> fmt::Debug for Frames<'_, W> {
     fn fmt(&self, f: &mut fmt::Formatter<'_>) -> fmt::Result {
         f.debug_tuple("Frames").field(&self.range).finish()
+    }
+}
+
+impl<W: Workspace> fmt::Debug for Kept<'_, W> {
+    fn fmt(&self, f: &mut fmt::Formatter<'_>) -> fmt::Result {
+        f.debug_tuple("Kept").field(&self.range).finish()
     }
 }

@@ -1,8 +1,8 @@
-//! The calls, through the wrapper: document 01's cases, each refusal, and frames that return themselves.
+//! The calls, through the wrapper: document 01's cases and each refusal.
 
 use likhmout::{
     Allocator, Answer, Area, ByteArea, Call, FrameRange, Kind, OutOfBounds, Ran, Refusal, RunEnd,
-    Shared,
+    Workspace,
 };
 use likhmout::{HELD_WORDS, TOP_FRAME, WORKSPACE_WORDS};
 
@@ -32,6 +32,11 @@ fn range(start: u64, end: u64) -> FrameRange {
     FrameRange::new(start, end)
 }
 
+fn returned(allocator: &mut Owned, start: u64, end: u64) -> Result<(), Refusal> {
+    // SAFETY: nobody uses frames here.
+    unsafe { allocator.return_frames(range(start, end)) }
+}
+
 const P1: [Area; 3] = [
     Area { start: 0, end: 30, kind: Kind::General },
     Area { start: 5, end: 9, kind: Kind::Reserved },
@@ -54,7 +59,7 @@ fn p7_sorted_count_takes_the_highest_chunk() {
 fn p8_to_p10_a_return_joins_above_and_never_both() {
     let mut allocator = sorted(&[general(0, 9)]);
     assert_eq!(allocator.allocate_frames_at(3, 3), Ok(range(3, 5)));
-    allocator.return_frames(range(3, 5)).unwrap();
+    returned(&mut allocator, 3, 5).unwrap();
     assert_eq!(allocator.allocate_frames(8), Err(Refusal::NoChunk));
     assert_eq!(allocator.allocate_frames_at(1, 5), Ok(range(1, 5)));
 }
@@ -98,9 +103,9 @@ fn refusals_of_the_state() {
         Err(Refusal::Missing { frame: 10, count: 3 })
     );
     assert_eq!(allocator.allocate_frames_at(98, 4), Err(Refusal::MeetsReserved));
-    assert_eq!(allocator.return_frames(range(3, 4)), Err(Refusal::NotHeld));
-    assert_eq!(allocator.return_frames(range(0, TOP_FRAME + 1)), Err(Refusal::OutOfBounds));
-    assert_eq!(allocator.return_frames(FrameRange::EMPTY), Ok(()));
+    assert_eq!(returned(&mut allocator, 3, 4), Err(Refusal::NotHeld));
+    assert_eq!(returned(&mut allocator, 0, TOP_FRAME + 1), Err(Refusal::OutOfBounds));
+    assert_eq!(returned(&mut allocator, 1, 0), Ok(()));
 
     let mut full = booted(&[general(0, 99)]);
     for i in 0..31 {
@@ -123,14 +128,15 @@ fn a_lent_workspace_that_is_short_or_written_to_is_refused() {
     written[0] = 77;
     assert_eq!(Allocator::new(written).check(), Ok(()), "a fresh record reads no word");
 
+    /// Words that somebody else writes to once the lists are there.
     struct Damaged([u64; WORKSPACE_WORDS], bool);
-    impl AsRef<[u64]> for Damaged {
-        fn as_ref(&self) -> &[u64] {
+    // SAFETY: none, which is what is tried: the wrong words are refused. Nobody uses frames here.
+    unsafe impl Workspace for Damaged {
+        fn words(&self) -> &[u64] {
             &self.0
         }
-    }
-    impl AsMut<[u64]> for Damaged {
-        fn as_mut(&mut self) -> &mut [u64] {
+
+        fn words_mut(&mut self) -> &mut [u64] {
             if self.1 {
                 self.0[1] = 3;
             }
@@ -171,7 +177,8 @@ fn a_run_answers_as_the_calls_do() {
         Call::allocate_frames_at(102, 6),
         Call::allocate_frames(3),
         Call::allocate_general_frames_at(8, 5),
-        Call::return_frames(range(0, 2)),
+        // SAFETY: nobody uses frames here.
+        unsafe { Call::return_frames(range(0, 2)) },
         Call::free_total(Kind::General),
         Call::kind_of_range(range(105, 107)),
         Call::held_list(),
@@ -193,44 +200,11 @@ fn a_run_answers_as_the_calls_do() {
     assert_eq!(answers[7].accepted().unwrap().count(), 1);
     assert_eq!(answers[8].accepted().unwrap().count(), 0);
 
-    let damaged = [Call::allocate_frames(1), Call { what: 12, x: 0, y: 0 }];
+    let damaged = [Call::allocate_frames(1), Call::init(0, 1)];
     let ran = allocator.run(&damaged, &[], &mut buffer, &mut held);
     assert_eq!((ran.answers.len(), ran.end), (1, RunEnd::Damaged));
     let ran = allocator.run(&calls[2..4], &[], &mut buffer[..1], &mut held);
     assert_eq!((ran.answers.len(), ran.end), (1, RunEnd::NoRoom));
-}
-
-#[test]
-fn frames_return_themselves() {
-    let shared = Shared::new(sorted(&[general(0, 9)]));
-    let page = shared.allocate_frames(4).unwrap();
-    assert_eq!(page.range(), range(0, 3));
-    {
-        let head = shared.allocate_frames_at(4, 2).unwrap();
-        assert_eq!(shared.allocate_frames_at(5, 1).unwrap_err(), Refusal::NotFree);
-        assert_eq!(shared.free_total(Kind::General), Ok(4));
-        drop(head);
-    }
-    assert_eq!(shared.free_total(Kind::General), Ok(6));
-    page.give_back().unwrap();
-    let kept = shared.allocate_frames(1).unwrap().keep();
-    assert_eq!(shared.free_total(Kind::General), Ok(9));
-    shared.return_frames(kept).unwrap();
-    assert_eq!(shared.free_total(Kind::General), Ok(10));
-    assert_eq!(shared.refused_returns(), 0);
-}
-
-#[test]
-fn a_return_without_a_slot_is_counted() {
-    let shared = Shared::new(booted(&[general(0, 99)]));
-    let first = shared.allocate_frames_at(0, 1).unwrap();
-    let held: Vec<_> =
-        (0..31).map(|i| shared.allocate_frames_at(2 + 2 * i, 1).unwrap().keep()).collect();
-    assert_eq!(held.len(), 31);
-    let (first, refusal) = first.give_back().unwrap_err();
-    assert_eq!(refusal, Refusal::ListFull);
-    drop(first);
-    assert_eq!(shared.refused_returns(), 1);
 }
 
 #[test]
