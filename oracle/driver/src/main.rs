@@ -9,6 +9,7 @@ mod random;
 mod ranges;
 mod verdict;
 
+use crate::verdict::Amount;
 use std::path::Path;
 use std::process::ExitCode;
 use std::{env, io};
@@ -48,15 +49,25 @@ fn main() -> ExitCode {
     };
     let Options { random, boots, calls, scripts, seed } = options;
     println!(
-        "random calls: {random}, random boots: {boots}, calls in lists: {calls}, scripts: {scripts}, seed: {seed}"
+        "random calls: {}, random boots: {}, calls in lists: {}, scripts: {}, seed: {seed}",
+        random.count, boots.count, calls.count, scripts.count
     );
-    status(
-        ranges::compare(random, seed)
-            & boots::compare(boots, seed)
-            & calls::compare_small_worlds()
-            & calls::compare(calls, seed)
-            & bench::compare(scripts, seed),
-    )
+    if [random, boots, calls, scripts].into_iter().any(Amount::is_reduced) {
+        println!("fewer than by default: what is rare may not occur there, which is told and is no fault");
+    }
+    let parts: [(&str, &dyn Fn() -> bool); 5] = [
+        ("range and frame calls", &|| ranges::compare(random, seed)),
+        ("boots", &|| boots::compare(boots, seed)),
+        ("lists of calls in small worlds, which take longest", &calls::compare_small_worlds),
+        ("random lists of calls", &|| calls::compare(calls, seed)),
+        ("scripts for the bench program", &|| bench::compare(scripts, seed)),
+    ];
+    let mut passes = true;
+    for (index, (what, compare)) in parts.iter().enumerate() {
+        eprintln!("oracle: comparing, {} of {}: {what}", index + 1, parts.len());
+        passes &= compare();
+    }
+    status(passes)
 }
 
 fn written(folder: &str, write: fn(&Path, u64) -> io::Result<()>) -> ExitCode {
@@ -79,27 +90,28 @@ fn status(success: bool) -> ExitCode {
 
 /// How many random calls, boots, calls in lists and scripts are compared.
 struct Options {
-    random: u64,
-    boots: u64,
-    calls: u64,
-    scripts: u64,
+    random: Amount,
+    boots: Amount,
+    calls: Amount,
+    scripts: Amount,
     seed: u64,
 }
 
 fn comparison_options(arguments: &[&str]) -> Option<Options> {
+    let whole = |default: u64| Amount { count: default, default };
     let mut options = Options {
-        random: RANDOM_CALLS,
-        boots: RANDOM_BOOTS,
-        calls: LISTED_CALLS,
-        scripts: SCRIPTS,
+        random: whole(RANDOM_CALLS),
+        boots: whole(RANDOM_BOOTS),
+        calls: whole(LISTED_CALLS),
+        scripts: whole(SCRIPTS),
         seed: SEED,
     };
     for option in arguments.chunks(2) {
         match option {
-            ["--random", number] => options.random = number.parse().ok()?,
-            ["--boots", number] => options.boots = number.parse().ok()?,
-            ["--calls", number] => options.calls = number.parse().ok()?,
-            ["--scripts", number] => options.scripts = number.parse().ok()?,
+            ["--random", number] => options.random.count = number.parse().ok()?,
+            ["--boots", number] => options.boots.count = number.parse().ok()?,
+            ["--calls", number] => options.calls.count = number.parse().ok()?,
+            ["--scripts", number] => options.scripts.count = number.parse().ok()?,
             ["--seed", number] => options.seed = number.parse().ok()?,
             _ => return None,
         }

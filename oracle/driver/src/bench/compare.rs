@@ -5,7 +5,7 @@ use super::program;
 use super::script::Script;
 use crate::allocator::theirs;
 use crate::random::Random;
-use crate::verdict;
+use crate::verdict::{self, Amount};
 
 /// So many differences are printed in full; the others are only counted.
 const SHOWN: u64 = 20;
@@ -13,11 +13,11 @@ const SHOWN: u64 = 20;
 const LONG: u64 = 12;
 
 /// True if nothing differed and all that can come of a line did.
-pub fn compare(scripts: u64, seed: u64) -> bool {
+pub fn compare(scripts: Amount, seed: u64) -> bool {
     let mut random = Random::new(seed);
     let mut counts = Counts::default();
     let mut differences = 0;
-    for index in 0..scripts {
+    for index in 0..scripts.count {
         let script = match index % LONG {
             0 => Script::of_full_tables(&mut random, &mut counts),
             _ => Script::of_any_calls(&mut random, &mut counts),
@@ -32,7 +32,7 @@ pub fn compare(scripts: u64, seed: u64) -> bool {
     theirs::empty_lists(false);
 
     counts.print();
-    verdict::passes(differences, &counts.faults())
+    verdict::passes(differences, &counts.faults(), scripts.is_reduced())
 }
 
 /// The first line for which something else is printed.

@@ -2,6 +2,7 @@
 
 use super::form::MOST_BYTES;
 use super::session::{Outcome, Why};
+use crate::verdict::Fault;
 
 const NUMBERS: usize = 20;
 /// The refusals that the program can print; 12 and 17 in sorted form only.
@@ -52,18 +53,24 @@ impl Counts {
     }
 
     /// What can occur and did not, and what did and cannot.
-    pub fn faults(&self) -> Vec<String> {
+    pub fn faults(&self) -> Vec<Fault> {
         let mut faults = Vec::new();
         for (form, name) in ["early", "sorted"].into_iter().enumerate() {
             for (label, row) in LABELS.iter().zip(&self.rows) {
-                faults.extend((row[form] == 0).then(|| format!("{name} form: never \"{label}\"")));
+                let never = format!("{name} form: never \"{label}\"");
+                faults.extend((row[form] == 0).then_some(Fault::Unseen(never)));
             }
             for (number, row) in self.refusals.iter().enumerate() {
                 let can_occur =
                     REFUSALS.contains(&number) && (form == 1 || ![12, 17].contains(&number));
-                if (row[form] > 0) != can_occur {
-                    let how = if can_occur { "never" } else { "cannot be" };
-                    faults.push(format!("{name} form: {how} (no {number})"));
+                match (row[form] > 0, can_occur) {
+                    (false, true) => {
+                        faults.push(Fault::Unseen(format!("{name} form: never (no {number})")));
+                    }
+                    (true, false) => {
+                        faults.push(Fault::Wrong(format!("{name} form: cannot be (no {number})")));
+                    }
+                    _ => {}
                 }
             }
         }

@@ -11,7 +11,7 @@ use crate::allocator::record::{Answer, Called, FrameAllocator, Stored, UNREAD};
 use crate::allocator::state::{Lists, State};
 use crate::allocator::{numbers, ours, theirs};
 use crate::random::Random;
-use crate::verdict;
+use crate::verdict::{self, Amount};
 use std::fmt::{self, Display};
 
 /// So many differences are printed in full; the others are only counted.
@@ -26,14 +26,14 @@ const AGAIN: u64 = 7;
 /// Of so many boots in the small worlds one is sorted; of the random boots each is.
 const SORT: u64 = 5;
 
-/// Compares the small worlds and `random_boots` random boots. True if nothing differed and all that
+/// Compares the small worlds and so many random boots. True if nothing differed and all that
 /// can come of a boot did.
-pub fn compare(random_boots: u64, seed: u64) -> bool {
+pub fn compare(random_boots: Amount, seed: u64) -> bool {
     let mut comparison = Comparison { counts: Counts::new(), boots: 0, differences: 0 };
 
     small::each(|boot, mixed| comparison.add(Source::SmallWorlds, boot, mixed));
     let mut random = Random::new(seed);
-    for i in 0..random_boots {
+    for i in 0..random_boots.count {
         let (source, boot) = match i % 2 {
             0 => (Source::RandomFrames, generate::random_boot(&mut random)),
             _ => (
@@ -46,7 +46,8 @@ pub fn compare(random_boots: u64, seed: u64) -> bool {
     theirs::empty_lists(false);
 
     comparison.counts.print();
-    verdict::passes(comparison.differences, &comparison.counts.faults())
+    let faults = comparison.counts.faults();
+    verdict::passes(comparison.differences, &faults, random_boots.is_reduced())
 }
 
 struct Comparison {

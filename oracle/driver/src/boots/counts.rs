@@ -4,6 +4,7 @@ use super::domain::is_empty;
 use crate::allocator::area::{Area, Boot, Unit};
 use crate::allocator::state::{Lists, Tables, SLOTS};
 use crate::frames::{Range, FRAME_SIZE};
+use crate::verdict::Fault;
 
 /// Where the boots come from.
 #[derive(Clone, Copy, PartialEq, Eq)]
@@ -15,6 +16,14 @@ pub enum Source {
 
 impl Source {
     const ALL: [Source; 3] = [Source::SmallWorlds, Source::RandomFrames, Source::RandomBytes];
+
+    fn label(self) -> &'static str {
+        match self {
+            Source::SmallWorlds => "small worlds",
+            Source::RandomFrames => "random",
+            Source::RandomBytes => "random, bytes",
+        }
+    }
 }
 
 /// A boot is counted in one row, or, where it is accepted, in `Accepted` and all below it that fit.
@@ -190,22 +199,27 @@ impl Counts {
         self.rows[row as usize][source as usize] += 1;
     }
 
-    /// What can occur and did not.
-    pub fn faults(&self) -> Vec<String> {
-        let missing = |row: Row| {
-            let never = |source: &Source| {
-                row.can_occur_in(*source) && self.rows[row as usize][*source as usize] == 0
+    /// What can occur and did not. The small worlds are the same in every run.
+    pub fn faults(&self) -> Vec<Fault> {
+        let mut faults = Vec::new();
+        for source in Source::ALL {
+            let never = |row: &Row| {
+                row.can_occur_in(source) && self.rows[*row as usize][source as usize] == 0
             };
-            Source::ALL
-                .iter()
-                .any(never)
-                .then(|| format!("boots: never \"{}\"", row.label().trim()))
-        };
-        Row::ALL.into_iter().filter_map(missing).collect()
+            for row in Row::ALL.into_iter().filter(never) {
+                let text = format!("boots, {}: never \"{}\"", source.label(), row.label().trim());
+                faults.push(match source {
+                    Source::SmallWorlds => Fault::Wrong(text),
+                    Source::RandomFrames | Source::RandomBytes => Fault::Unseen(text),
+                });
+            }
+        }
+        faults
     }
 
     pub fn print(&self) {
-        println!("{:<40}{:>14}{:>14}{:>14}", "boots", "small worlds", "random", "random, bytes");
+        let [small, frames, bytes] = Source::ALL.map(Source::label);
+        println!("{:<40}{small:>14}{frames:>14}{bytes:>14}", "boots");
         print_row("all", self.boots);
         Row::ALL.into_iter().for_each(|row| print_row(row.label(), self.rows[row as usize]));
     }

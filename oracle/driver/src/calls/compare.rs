@@ -8,7 +8,7 @@ use crate::allocator::record::{Answer, Stored};
 use crate::allocator::state::State;
 use crate::allocator::{ours, run, theirs};
 use crate::random::Random;
-use crate::verdict;
+use crate::verdict::{self, Amount};
 use std::mem;
 
 /// So many differences are printed in full; the others are only counted.
@@ -16,11 +16,11 @@ const SHOWN: u64 = 20;
 
 /// Compares random lists of so many calls together or a few more. True if nothing differed and all that can
 /// come of a call did.
-pub fn compare(calls: u64, seed: u64) -> bool {
+pub fn compare(calls: Amount, seed: u64) -> bool {
     let mut comparison = Comparison { counts: Counts::new(Scope::Lists), differences: 0 };
     let mut random = Random::new(seed);
     let (mut lists, mut made) = (0, 0);
-    while made < calls {
+    while made < calls.count {
         let mut plan = Plan::new(&mut random);
         made += comparison.add_list(|state| plan.next(state, &mut random));
         lists += 1;
@@ -29,7 +29,8 @@ pub fn compare(calls: u64, seed: u64) -> bool {
 
     println!("lists of calls: {lists}, calls: {}", comparison.counts.calls());
     comparison.counts.print();
-    verdict::passes(comparison.differences, &comparison.counts.faults())
+    let faults = comparison.counts.faults();
+    verdict::passes(comparison.differences, &faults, calls.is_reduced())
 }
 
 struct Comparison {

@@ -4,6 +4,7 @@ use super::judge::{Judge, Judgement};
 use super::rows::Row;
 use crate::allocator::call::{Call, Kind};
 use crate::allocator::state::State;
+use crate::verdict::Fault;
 
 const NUMBERS: usize = 20;
 
@@ -69,7 +70,7 @@ impl Counts {
     }
 
     /// What can occur and did not, and what did and cannot.
-    pub fn faults(&self) -> Vec<String> {
+    pub fn faults(&self) -> Vec<Fault> {
         let forms = [(false, "early"), (true, "sorted")];
         let mut faults = Vec::new();
         for (sorted, form) in forms {
@@ -82,8 +83,8 @@ impl Counts {
                     let by_form = &self.numbers[kind as usize][number as usize];
                     let occurred = by_form[usize::from(sorted)] != [0; 2];
                     if occurred != possible.contains(&number) {
-                        let how = if occurred { "cannot be" } else { "never" };
-                        faults.push(format!("{}, {form} form: {how} {number}", kind.name()));
+                        let about = format!("{}, {form} form", kind.name());
+                        faults.push(self.fault(&about, occurred, &number.to_string()));
                     }
                 }
             }
@@ -92,12 +93,21 @@ impl Counts {
                 let can_occur = row.can_occur_in(sorted)
                     && (self.scope == Scope::Lists || !row.needs_many_entries());
                 if occurred != can_occur {
-                    let how = if occurred { "cannot be" } else { "never" };
-                    faults.push(format!("{form} form: {how} \"{}\"", row.label().trim()));
+                    let label = format!("\"{}\"", row.label().trim());
+                    faults.push(self.fault(&format!("{form} form"), occurred, &label));
                 }
             }
         }
         faults
+    }
+
+    /// The small worlds are the same in every run, so what never occurs there is no chance.
+    fn fault(&self, about: &str, occurred: bool, what: &str) -> Fault {
+        match self.scope {
+            _ if occurred => Fault::Wrong(format!("{about}: cannot be {what}")),
+            Scope::SmallWorlds => Fault::Wrong(format!("{about}: never {what}")),
+            Scope::Lists => Fault::Unseen(format!("{about}: never {what}")),
+        }
     }
 
     /// How many calls were counted.

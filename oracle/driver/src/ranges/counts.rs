@@ -2,6 +2,7 @@
 
 use super::call::Kind;
 use super::outcome::{Outcome, Verdict};
+use crate::verdict::Fault;
 
 pub struct Counts {
     counts: [[u64; Outcome::COUNT]; Kind::ALL.len()],
@@ -31,16 +32,18 @@ impl Counts {
 
     /// The outcomes that can occur and did not. An outcome outside the list of possible ones would
     /// make a call's sum differ from its total; that is reported too.
-    pub fn faults(&self) -> Vec<String> {
+    pub fn faults(&self) -> Vec<Fault> {
         let mut faults = Vec::new();
         for kind in Kind::ALL {
             let possible = Outcome::possible(kind);
             for &outcome in possible.iter().filter(|&&o| self.of(kind, o) == 0) {
-                faults.push(format!("{}: never \"{}\"", kind.name(), outcome.label()));
+                let never = format!("{}: never \"{}\"", kind.name(), outcome.label());
+                faults.push(Fault::Unseen(never));
             }
             let listed: u64 = possible.iter().map(|&o| self.of(kind, o)).sum();
             if listed != self.total(kind) {
-                faults.push(format!("{}: an outcome that is not listed", kind.name()));
+                let unlisted = format!("{}: an outcome that is not listed", kind.name());
+                faults.push(Fault::Wrong(unlisted));
             }
         }
         faults
