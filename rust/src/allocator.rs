@@ -93,7 +93,8 @@ impl<W: Workspace> Allocator<W> {
         Allocator { record, workspace }
     }
 
-    /// The workspace, with the lists in it once the allocator is sorted.
+    /// The workspace, with the lists in it once the allocator is sorted. The allocator ends here; a new one over the same words knows
+    /// nothing of what this one granted.
     pub fn into_workspace(self) -> W {
         self.workspace
     }

@@ -7,7 +7,15 @@ use crate::workspace::Workspace;
 use core::cell::{Cell, RefCell};
 use core::{fmt, mem};
 
-/// An allocator behind a shared reference, for one thread.
+/// An allocator behind a shared reference, for one thread:
+///
+/// ```compile_fail,E0277
+/// # use likhmout::{Frames, WORKSPACE_WORDS};
+/// fn sent(frames: impl Send) {}
+/// fn to_another_thread(frames: Frames<[u64; WORKSPACE_WORDS]>) {
+///     sent(frames);
+/// }
+/// ```
 ///
 /// What it grants borrows it, so as long as [`Frames`] or [`Kept`] of it are about it can be neither moved nor taken apart, exchanged for
 /// another allocator, or ended:
