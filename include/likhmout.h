@@ -1,6 +1,6 @@
 /* Likhmout: the physical frame allocator of Theseus, proved, for C and C++ programs on x86-64.
  *
- * `rt staticlib exports` writes target/staticlib/libexports.a, which has every function below but the inline ones. It needs memcpy and
+ * `scripts/build exports` writes target/staticlib/libexports.a, which has every function below but the inline ones. It needs memcpy and
  * memset, and nothing else; it is compiled for the System V ABI, with SSE2 registers and a red zone. Its functions are those of
  * crates/exports/src, where the contract of each says what it is proved to do. "Document 01" is the specification.
  *
