@@ -57,7 +57,7 @@ fn print_labels(board: &Board) {
     };
     for frames in [16, 100] {
         if let Ok(page) = builder.page(frames) {
-            let _ = driver.buffer(page.range().start * FRAME_SIZE, 1);
+            let _ = driver.buffer(page.range().start * FRAME_SIZE, 64);
             println!("{:<44} {}", "  general frames free", total(board, Kind::General));
         }
     }
