@@ -6,7 +6,8 @@ use std::path::PathBuf;
 fn main() {
     let here = env::var("CARGO_MANIFEST_DIR").expect("cargo sets it");
     let beside = PathBuf::from(here).join("../target/staticlib");
-    let folder = env::var_os("LIKHMOUT_LIB_DIR").map_or(beside, PathBuf::from);
+    let named = env::var_os("LIKHMOUT_LIB_DIR").filter(|folder| !folder.is_empty());
+    let folder = named.map_or(beside, PathBuf::from);
     let library = folder.join("libexports.a");
     println!("cargo:rustc-link-search=native={}", folder.display());
     println!("cargo:rustc-link-lib=static=exports");

@@ -56,29 +56,7 @@ impl From<ByteArea> for [u64; 3] {
 ///
 /// Grants are plain numbers here, which anybody can copy, so a return is `unsafe`. [`crate::Shared`] returns in safe code.
 ///
-/// ```compile_fail,E0133
-/// # use likhmout::{Allocator, Refusal, WORKSPACE_WORDS};
-/// fn twice(allocator: &mut Allocator<[u64; WORKSPACE_WORDS]>) -> Result<(), Refusal> {
-///     let page = allocator.allocate_frames(4)?;
-///     allocator.return_frames(page)?;
-///     let next = allocator.allocate_frames(4)?; // the same four frames
-///     allocator.return_frames(page) // whose are they?
-/// }
-/// ```
-///
-/// The words are the allocator's alone, so a workspace of one's own making needs `unsafe` too: [`Workspace`].
-///
-/// ```compile_fail,E0277
-/// # use likhmout::Allocator;
-/// struct Words([u64; 4096]);
-/// impl AsRef<[u64]> for Words {
-///     fn as_ref(&self) -> &[u64] { &self.0 }
-/// }
-/// impl AsMut<[u64]> for Words {
-///     fn as_mut(&mut self) -> &mut [u64] { &mut self.0 }
-/// }
-/// let allocator = Allocator::new(Words([0; 4096]));
-/// ```
+/// With its words it has 34,984 bytes; over words that it borrows, 2,232.
 pub struct Allocator<W> {
     record: raw::FrameAllocator,
     workspace: W,
@@ -106,6 +84,7 @@ impl<W: Workspace> Allocator<W> {
         Answer { number, ..Answer::BLANK }.accepted().map(|_| ())
     }
 
+    /// Boots from the areas. A record is booted once: a second boot is refused with 10.
     pub fn init(&mut self, areas: &[Area]) -> Result<(), Refusal> {
         let (words, areas) = (self.workspace.words(), words::of(areas));
         let answer = unsafe {
@@ -120,6 +99,7 @@ impl<W: Workspace> Allocator<W> {
         answer.accepted().map(|_| ())
     }
 
+    /// The same, where the areas are in bytes: each is the frames that it touches.
     pub fn init_from_bytes(&mut self, areas: &[ByteArea]) -> Result<(), Refusal> {
         let (words, areas) = (self.workspace.words(), words::of(areas));
         let answer = unsafe {

@@ -9,8 +9,31 @@
 //! to no other. A return by plain numbers ([`Allocator::return_frames`], [`Call::return_frames`]) is `unsafe`, and so is a workspace of one's
 //! own making ([`Workspace`]). Two allocators are two: if both are booted with the same frames, each hands them out.
 //!
+//! ```
+//! use likhmout::{Allocator, Area, Kind, Refusal, Shared, WORKSPACE_WORDS};
+//!
+//! fn main() -> Result<(), Refusal> {
+//!     let mut words = [0; WORKSPACE_WORDS];
+//!     let mut allocator = Allocator::new(&mut words);
+//!     allocator.init(&[Area { start: 0, end: 99, kind: Kind::General }])?;
+//!     allocator.convert_frame_allocator_to_heap_based()?; // once, after the boot
+//!
+//!     let board = Shared::new(allocator);
+//!     let page = board.allocate_frames(16)?; // wherever they are
+//!     let head = board.allocate_frames_at(50, 4)?.keep(); // at this frame, until it is given back
+//!     assert_eq!(board.free_total(Kind::General)?, 80);
+//!     drop(page);
+//!     assert_eq!(board.free_total(Kind::General)?, 96);
+//!     head.give_back().map_err(|(_, refusal)| refusal)
+//! }
+//! ```
+//!
 //! What is proved is the library underneath (docs/CLAIMS.md). This crate turns its answers into types, and has tests. Its `unsafe` is the
-//! calls of the library, and slices of structs seen as words; each has its reason beside it.
+//! calls of the library, slices of structs seen as words, workspaces, and the one return behind `Frames` and `Kept`; each has its reason
+//! beside it.
+//!
+//! **Threads.** A lock is the program's. `Shared` is for one thread. Behind a lock an [`Allocator`] serves several, with returns by plain
+//! numbers.
 //!
 //! A call takes up to 48 KB of stack (a run; a request 44 KB, a return 22 KB, any other call 14 KB; measured, not proved). The library
 //! uses SSE2 registers and the red zone.
@@ -26,6 +49,8 @@ compile_error!(concat!(
 ));
 
 mod allocator;
+#[cfg(doctest)]
+mod must_not_compile;
 mod range;
 mod raw;
 mod refusal;

@@ -59,8 +59,8 @@ impl Call {
 
     /// # Safety
     ///
-    /// As for [`Allocator::return_frames`](crate::Allocator::return_frames): when the call is made, and each time that it is made, whoever these
-    /// frames were granted to has let go of them.
+    /// As for [`Allocator::return_frames`](crate::Allocator::return_frames): when the call is made, and each time that it is made, whoever the
+    /// allocator that makes it had granted these frames to has let go of them.
     pub const unsafe fn return_frames(range: FrameRange) -> Call {
         Call::of(8, range.start, range.end)
     }

@@ -7,80 +7,17 @@ use crate::workspace::Workspace;
 use core::cell::{Cell, RefCell};
 use core::{fmt, mem};
 
-/// An allocator behind a shared reference, for one thread:
+/// An allocator behind a shared reference, for one thread: it is not `Sync`. Its calls are those of [`Allocator`], and what a request grants
+/// returns itself.
 ///
-/// ```compile_fail,E0277
-/// # use likhmout::{Frames, WORKSPACE_WORDS};
-/// fn sent(frames: impl Send) {}
-/// fn to_another_thread(frames: Frames<[u64; WORKSPACE_WORDS]>) {
-///     sent(frames);
-/// }
-/// ```
-///
-/// What it grants borrows it, so as long as [`Frames`] or [`Kept`] of it are about it can be neither moved nor taken apart, exchanged for
-/// another allocator, or ended:
-///
-/// ```compile_fail,E0505
-/// # use likhmout::{Refusal, Shared, WORKSPACE_WORDS};
-/// fn apart(shared: Shared<[u64; WORKSPACE_WORDS]>) -> Result<(), Refusal> {
-///     let page = shared.allocate_frames(4)?;
-///     let allocator = shared.into_allocator();
-///     drop(page);
-///     Ok(())
-/// }
-/// ```
-///
-/// ```compile_fail,E0502
-/// # use likhmout::{Refusal, Shared, WORKSPACE_WORDS};
-/// # use std::mem;
-/// type Board = Shared<[u64; WORKSPACE_WORDS]>;
-/// fn exchanged(a: &mut Board, b: &mut Board) -> Result<(), Refusal> {
-///     let kept = a.allocate_frames(4)?.keep();
-///     mem::swap(a, b);
-///     kept.give_back().map_err(|(_, refusal)| refusal)
-/// }
-/// ```
-///
-/// ```compile_fail,E0515
-/// # use likhmout::{Frames, Refusal, Shared, WORKSPACE_WORDS};
-/// type Words = [u64; WORKSPACE_WORDS];
-/// fn outlives<'a>(shared: Shared<Words>) -> Result<Frames<'a, Words>, Refusal> {
-///     shared.allocate_frames(4)
-/// }
-/// ```
-///
-/// Once they are gone, it can:
-///
-/// ```
-/// # use likhmout::{Refusal, Shared, WORKSPACE_WORDS};
-/// # use std::mem;
-/// type Board = Shared<[u64; WORKSPACE_WORDS]>;
-/// fn exchanged(a: &mut Board, b: &mut Board) -> Result<(), Refusal> {
-///     let kept = a.allocate_frames(4)?.keep();
-///     kept.give_back().map_err(|(_, refusal)| refusal)?;
-///     mem::swap(a, b);
-///     Ok(())
-/// }
-/// ```
+/// What it grants borrows it. As long as [`Frames`] or [`Kept`] of it are about, it can be neither moved nor taken apart, nor exchanged for
+/// another allocator; the compiler refuses that.
 pub struct Shared<W> {
     allocator: RefCell<Allocator<W>>,
     refused_returns: Cell<u64>,
 }
 
 /// Granted frames, which are returned when this is dropped. Where it is forgotten (`mem::forget`) they stay held for good.
-///
-/// Nothing else returns them, so they can't be returned and used:
-///
-/// ```compile_fail,E0382
-/// # use likhmout::{Refusal, Shared, WORKSPACE_WORDS};
-/// fn used_after(shared: &Shared<[u64; WORKSPACE_WORDS]>) -> Result<(), Refusal> {
-///     let page = shared.allocate_frames(4)?;
-///     drop(page);
-///     let next = shared.allocate_frames(4)?; // the same four frames
-///     println!("{:?}", page.range());
-///     Ok(())
-/// }
-/// ```
 #[must_use = "frames that are dropped are returned"]
 pub struct Frames<'a, W: Workspace> {
     shared: &'a Shared<W>,
@@ -89,15 +26,6 @@ pub struct Frames<'a, W: Workspace> {
 
 /// Granted frames that are not returned when this is dropped; then they stay held for good. There is one of them for each grant, and it
 /// borrows the allocator that granted them, so that they go back there, and once.
-///
-/// ```compile_fail,E0599
-/// # use likhmout::{Refusal, Shared, WORKSPACE_WORDS};
-/// fn copied(shared: &Shared<[u64; WORKSPACE_WORDS]>) -> Result<(), Refusal> {
-///     let kept = shared.allocate_frames(4)?.keep();
-///     let copy = kept.clone();
-///     Ok(())
-/// }
-/// ```
 #[must_use = "what was kept and is dropped stays held for good"]
 pub struct Kept<'a, W: Workspace> {
     shared: &'a Shared<W>,
@@ -123,14 +51,17 @@ impl<W: Workspace> Shared<W> {
         Ok(Frames { shared: self, range })
     }
 
+    /// As [`Allocator::allocate_frames`].
     pub fn allocate_frames(&self, num_frames: u64) -> Result<Frames<'_, W>, Refusal> {
         self.granted(|allocator| allocator.allocate_frames(num_frames))
     }
 
+    /// As [`Allocator::allocate_frames_by_bytes`].
     pub fn allocate_frames_by_bytes(&self, num_bytes: u64) -> Result<Frames<'_, W>, Refusal> {
         self.granted(|allocator| allocator.allocate_frames_by_bytes(num_bytes))
     }
 
+    /// As [`Allocator::allocate_frames_at`].
     pub fn allocate_frames_at(
         &self,
         frame: u64,
@@ -139,6 +70,7 @@ impl<W: Workspace> Shared<W> {
         self.granted(|allocator| allocator.allocate_frames_at(frame, num_frames))
     }
 
+    /// As [`Allocator::allocate_frames_by_bytes_at`].
     pub fn allocate_frames_by_bytes_at(
         &self,
         address: u64,
@@ -147,6 +79,7 @@ impl<W: Workspace> Shared<W> {
         self.granted(|allocator| allocator.allocate_frames_by_bytes_at(address, num_bytes))
     }
 
+    /// As [`Allocator::allocate_general_frames_at`].
     pub fn allocate_general_frames_at(
         &self,
         frame: u64,
@@ -155,18 +88,22 @@ impl<W: Workspace> Shared<W> {
         self.granted(|allocator| allocator.allocate_general_frames_at(frame, num_frames))
     }
 
+    /// As [`Allocator::convert_frame_allocator_to_heap_based`].
     pub fn convert_frame_allocator_to_heap_based(&self) -> Result<(), Refusal> {
         self.allocator.borrow_mut().convert_frame_allocator_to_heap_based()
     }
 
+    /// As [`Allocator::kind_of_range`].
     pub fn kind_of_range(&self, range: FrameRange) -> Result<Kind, Refusal> {
         self.allocator.borrow().kind_of_range(range)
     }
 
+    /// As [`Allocator::free_total`].
     pub fn free_total(&self, kind: Kind) -> Result<u64, Refusal> {
         self.allocator.borrow().free_total(kind)
     }
 
+    /// As [`Allocator::held_list`].
     pub fn held_list<'b>(&self, buffer: &'b mut [u64]) -> Result<&'b [FrameRange], Refusal> {
         self.allocator.borrow().held_list(buffer)
     }
@@ -178,6 +115,7 @@ impl<W: Workspace> Shared<W> {
 }
 
 impl<'a, W: Workspace> Frames<'a, W> {
+    /// Which frames they are. The numbers are no hold on them.
     pub fn range(&self) -> FrameRange {
         self.range
     }
@@ -205,6 +143,7 @@ impl<W: Workspace> Drop for Frames<'_, W> {
 }
 
 impl<W: Workspace> Kept<'_, W> {
+    /// Which frames they are. The numbers are no hold on them.
     pub fn range(&self) -> FrameRange {
         self.range
     }

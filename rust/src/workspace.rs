@@ -1,7 +1,6 @@
 //! The words that the lists lie in once they are sorted.
 
-/// Memory that an allocator keeps its lists in. It is an array, or a slice or an array that is lent for good:
-/// `[u64; WORKSPACE_WORDS]`, `&mut [u64]`, `&mut [u64; WORKSPACE_WORDS]`.
+/// Memory that an allocator keeps its lists in: an array, or a slice or an array that it is lent as long as it lasts.
 ///
 /// # Safety
 ///

@@ -1,5 +1,5 @@
-//! Frames that return themselves: no frame of an allocator is held twice, whatever becomes of what holds it. What must not compile stands
-//! in the documentation of `Allocator`, `Shared`, `Frames` and `Kept`.
+//! Frames that return themselves: no frame of an allocator is held twice, whatever becomes of what holds it. What must not compile is in
+//! `src/must_not_compile.rs`.
 
 use likhmout::{
     Allocator, Area, FrameRange, Frames, Kept, Kind, Refusal, Shared, HELD_WORDS, WORKSPACE_WORDS,
