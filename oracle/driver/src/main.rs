@@ -49,10 +49,10 @@ fn main() -> ExitCode {
     };
     let Options { random, boots, calls, scripts, seed } = options;
     println!(
-        "random calls: {}, random boots: {}, calls in lists: {}, scripts: {}, seed: {seed}",
-        random.count, boots.count, calls.count, scripts.count
+        "random calls: {random}, random boots: {}, calls in lists: {}, scripts: {}, seed: {seed}",
+        boots.count, calls.count, scripts.count
     );
-    if [random, boots, calls, scripts].into_iter().any(Amount::is_reduced) {
+    if [boots, calls, scripts].into_iter().any(Amount::is_reduced) {
         println!("fewer than by default: what is rare may not occur there, which is told and is no fault");
     }
     let parts: [(&str, &dyn Fn() -> bool); 5] = [
@@ -90,7 +90,7 @@ fn status(success: bool) -> ExitCode {
 
 /// How many random calls, boots, calls in lists and scripts are compared.
 struct Options {
-    random: Amount,
+    random: u64,
     boots: Amount,
     calls: Amount,
     scripts: Amount,
@@ -100,7 +100,7 @@ struct Options {
 fn comparison_options(arguments: &[&str]) -> Option<Options> {
     let whole = |default: u64| Amount { count: default, default };
     let mut options = Options {
-        random: whole(RANDOM_CALLS),
+        random: RANDOM_CALLS,
         boots: whole(RANDOM_BOOTS),
         calls: whole(LISTED_CALLS),
         scripts: whole(SCRIPTS),
@@ -108,7 +108,7 @@ fn comparison_options(arguments: &[&str]) -> Option<Options> {
     };
     for option in arguments.chunks(2) {
         match option {
-            ["--random", number] => options.random.count = number.parse().ok()?,
+            ["--random", number] => options.random = number.parse().ok()?,
             ["--boots", number] => options.boots.count = number.parse().ok()?,
             ["--calls", number] => options.calls.count = number.parse().ok()?,
             ["--scripts", number] => options.scripts.count = number.parse().ok()?,

@@ -22,6 +22,23 @@ pub enum Fault {
     Wrong(String),
 }
 
+impl Fault {
+    /// It occurred and cannot, or it can occur by chance and did not.
+    pub fn by_chance(about: &str, occurred: bool, what: &str) -> Fault {
+        if occurred {
+            Fault::Wrong(format!("{about}: cannot be {what}"))
+        } else {
+            Fault::Unseen(format!("{about}: never {what}"))
+        }
+    }
+
+    /// The same where nothing is left to chance.
+    pub fn sure(about: &str, occurred: bool, what: &str) -> Fault {
+        let how = if occurred { "cannot be" } else { "never" };
+        Fault::Wrong(format!("{about}: {how} {what}"))
+    }
+}
+
 /// Prints what differed and what is missing; whether nothing is. Where fewer are compared than by default, what did not occur by chance
 /// is told and is no fault.
 pub fn passes(differences: u64, faults: &[Fault], is_reduced: bool) -> bool {

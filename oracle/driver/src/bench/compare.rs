@@ -12,7 +12,7 @@ const SHOWN: u64 = 20;
 /// One script in so many fills a list of 512, which takes long.
 const LONG: u64 = 12;
 
-/// True if nothing differed and all that can come of a line did.
+/// True if nothing differed and all that can come of a line did, or where there are fewer scripts than by default may not have.
 pub fn compare(scripts: Amount, seed: u64) -> bool {
     let mut random = Random::new(seed);
     let mut counts = Counts::default();

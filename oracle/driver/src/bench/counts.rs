@@ -55,22 +55,18 @@ impl Counts {
     /// What can occur and did not, and what did and cannot.
     pub fn faults(&self) -> Vec<Fault> {
         let mut faults = Vec::new();
-        for (form, name) in ["early", "sorted"].into_iter().enumerate() {
+        for (form, name) in ["early form", "sorted form"].into_iter().enumerate() {
             for (label, row) in LABELS.iter().zip(&self.rows) {
-                let never = format!("{name} form: never \"{label}\"");
-                faults.extend((row[form] == 0).then_some(Fault::Unseen(never)));
+                if row[form] == 0 {
+                    faults.push(Fault::by_chance(name, false, &format!("\"{label}\"")));
+                }
             }
             for (number, row) in self.refusals.iter().enumerate() {
                 let can_occur =
                     REFUSALS.contains(&number) && (form == 1 || ![12, 17].contains(&number));
-                match (row[form] > 0, can_occur) {
-                    (false, true) => {
-                        faults.push(Fault::Unseen(format!("{name} form: never (no {number})")));
-                    }
-                    (true, false) => {
-                        faults.push(Fault::Wrong(format!("{name} form: cannot be (no {number})")));
-                    }
-                    _ => {}
+                let occurred = row[form] > 0;
+                if occurred != can_occur {
+                    faults.push(Fault::by_chance(name, occurred, &format!("(no {number})")));
                 }
             }
         }

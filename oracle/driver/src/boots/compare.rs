@@ -27,7 +27,7 @@ const AGAIN: u64 = 7;
 const SORT: u64 = 5;
 
 /// Compares the small worlds and so many random boots. True if nothing differed and all that
-/// can come of a boot did.
+/// can come of a boot did, or where fewer are compared than by default may not have.
 pub fn compare(random_boots: Amount, seed: u64) -> bool {
     let mut comparison = Comparison { counts: Counts::new(), boots: 0, differences: 0 };
 

@@ -207,10 +207,11 @@ impl Counts {
                 row.can_occur_in(source) && self.rows[*row as usize][source as usize] == 0
             };
             for row in Row::ALL.into_iter().filter(never) {
-                let text = format!("boots, {}: never \"{}\"", source.label(), row.label().trim());
+                let about = format!("boots, {}", source.label());
+                let label = format!("\"{}\"", row.label().trim());
                 faults.push(match source {
-                    Source::SmallWorlds => Fault::Wrong(text),
-                    Source::RandomFrames | Source::RandomBytes => Fault::Unseen(text),
+                    Source::SmallWorlds => Fault::sure(&about, false, &label),
+                    _ => Fault::by_chance(&about, false, &label),
                 });
             }
         }

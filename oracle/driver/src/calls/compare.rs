@@ -15,7 +15,7 @@ use std::mem;
 const SHOWN: u64 = 20;
 
 /// Compares random lists of so many calls together or a few more. True if nothing differed and all that can
-/// come of a call did.
+/// come of a call did, or where fewer are compared than by default may not have.
 pub fn compare(calls: Amount, seed: u64) -> bool {
     let mut comparison = Comparison { counts: Counts::new(Scope::Lists), differences: 0 };
     let mut random = Random::new(seed);

@@ -104,9 +104,8 @@ impl Counts {
     /// The small worlds are the same in every run, so what never occurs there is no chance.
     fn fault(&self, about: &str, occurred: bool, what: &str) -> Fault {
         match self.scope {
-            _ if occurred => Fault::Wrong(format!("{about}: cannot be {what}")),
-            Scope::SmallWorlds => Fault::Wrong(format!("{about}: never {what}")),
-            Scope::Lists => Fault::Unseen(format!("{about}: never {what}")),
+            Scope::SmallWorlds => Fault::sure(about, occurred, what),
+            Scope::Lists => Fault::by_chance(about, occurred, what),
         }
     }
 

@@ -30,20 +30,19 @@ impl Counts {
         outcomes.filter(|o| o.verdict() == verdict).map(|&o| self.of(kind, o)).sum()
     }
 
-    /// The outcomes that can occur and did not. An outcome outside the list of possible ones would
+    /// The outcomes that can occur and did not: the small worlds alone have each. An outcome outside the list of possible ones would
     /// make a call's sum differ from its total; that is reported too.
     pub fn faults(&self) -> Vec<Fault> {
         let mut faults = Vec::new();
         for kind in Kind::ALL {
             let possible = Outcome::possible(kind);
             for &outcome in possible.iter().filter(|&&o| self.of(kind, o) == 0) {
-                let never = format!("{}: never \"{}\"", kind.name(), outcome.label());
-                faults.push(Fault::Unseen(never));
+                let label = format!("\"{}\"", outcome.label());
+                faults.push(Fault::sure(kind.name(), false, &label));
             }
             let listed: u64 = possible.iter().map(|&o| self.of(kind, o)).sum();
             if listed != self.total(kind) {
-                let unlisted = format!("{}: an outcome that is not listed", kind.name());
-                faults.push(Fault::Wrong(unlisted));
+                faults.push(Fault::sure(kind.name(), true, "an outcome that is not listed"));
             }
         }
         faults
