@@ -56,7 +56,7 @@ impl From<ByteArea> for [u64; 3] {
 ///
 /// Grants are plain numbers here, which anybody can copy, so a return is `unsafe`. [`crate::Shared`] returns in safe code.
 ///
-/// With its words it has 34,984 bytes; over words that it borrows, 2,232.
+/// With its words it has 34,984 bytes; over a slice that it borrows, 2,232.
 pub struct Allocator<W> {
     record: raw::FrameAllocator,
     workspace: W,
@@ -77,14 +77,14 @@ impl<W: Workspace> Allocator<W> {
         self.workspace
     }
 
-    /// The test that every call makes first: 3 where the workspace is short, 11 where somebody else wrote to it.
+    /// The test that every call makes first: 3 where the workspace is short, 11 where the list rules are broken.
     pub fn check(&self) -> Result<(), Refusal> {
         let words = self.workspace.words();
         let number = unsafe { raw::likhmout_check(&self.record, words.as_ptr(), words.len()) };
         Answer { number, ..Answer::BLANK }.accepted().map(|_| ())
     }
 
-    /// Boots from the areas. A record is booted once: a second boot is refused with 10.
+    /// Boots from the areas. Where a list has an entry already, as after a boot, that is refused with 10.
     pub fn init(&mut self, areas: &[Area]) -> Result<(), Refusal> {
         let (words, areas) = (self.workspace.words(), words::of(areas));
         let answer = unsafe {
@@ -173,7 +173,7 @@ impl<W: Workspace> Allocator<W> {
         })
     }
 
-    /// The frames from this one on, if they are general and free.
+    /// The frames from this one on, from the general list alone: the reserved side never grows.
     pub fn allocate_general_frames_at(
         &mut self,
         frame: u64,

@@ -30,7 +30,7 @@ pub enum Refusal {
     NotFree,
     /// 14: no general chunk has the count.
     NoChunk,
-    /// 15: a general-only request lacks frames at its end.
+    /// 15: frames are missing, for a general-only request.
     Missing {
         /// The first frame that is missing.
         frame: u64,
