@@ -249,7 +249,7 @@ likhmout_answer likhmout_allocate_frames_at(
 likhmout_answer likhmout_allocate_frames_by_bytes_at(
     likhmout_frame_allocator *a, uint64_t *words, size_t words_len, uint64_t address, uint64_t num_bytes);
 
-/* The frames from this one on, if they are general and free; it never grows the reserved side.
+/* The frames from this one on, from the general list alone; it never grows the reserved side.
  * Refused: 3, 11, 1, 2, then 12, 15, 17, and 18 last. */
 likhmout_answer likhmout_allocate_general_frames_at(
     likhmout_frame_allocator *a, uint64_t *words, size_t words_len, uint64_t frame, uint64_t num_frames);
