@@ -55,7 +55,7 @@ pub fn init_from_bytes(a: &mut FrameAllocator, areas: &[ByteArea], words: &[u64]
 pub fn allocate(a: &mut FrameAllocator, words: &mut [u64], request: Request) -> Answer
     ensures { λ r. ⌜ Gives (callOf request) (now (a .entry)) (now (words .entry)) (answeredWith r (now (a .exit))) (now (words .exit)) ⌝ }
 {
-    let called = requests::allocate(*a, words, request);
+    let called = calls::allocate(*a, words, request);
     *a = called.allocator;
     called.answer
 }
@@ -73,7 +73,7 @@ pub fn convert_frame_allocator_to_heap_based(a: &mut FrameAllocator, words: &mut
 pub fn return_frames(a: &mut FrameAllocator, words: &mut [u64], range: FrameRange) -> Answer
     ensures { λ r. ⌜ Gives (returnCall range) (now (a .entry)) (now (words .entry)) (answeredWith r (now (a .exit))) (now (words .exit)) ⌝ }
 {
-    let returned = returns::return_frames(*a, words, range);
+    let returned = calls::return_frames(*a, words, range);
     *a = returned.allocator;
     returned.answer
 }

@@ -6,6 +6,7 @@ use mathlib.Core.Bool.{true, false}
 use mathlib.Core.List.{List}
 use lib.ListN.{length}
 use borrow.Author.Tests.{lt-ltb, le-ltb}
+use Rattle.model.specs.Lists.{Lists}
 use Rattle.model.specs.Requests.{withoutFrames, counted}
 use Rattle.model.specs.Queries.{heldRuns, HeldWritten}
 use Rattle.model.specs.Store.{load}
@@ -13,8 +14,14 @@ use Rattle.model.specs.Calls.{Call, heldCall, Outcome, answer, shortBuffer, unc
 use Rattle.model.specs.declared.Answer.{Answer}
 use Rattle.model.specs.declared.FrameAllocator.{FrameAllocator}
 use Rattle.rules.specs.Check.{checked}
-use Rattle.rules.proofs.Numbers.{short-call, gives-refused, accepted-call}
-use Rattle.held_list.specs.Listed.{Listed}
+use Rattle.rules.proofs.Numbers.{short-call, gives-refused, accepted-call, checked-ruled}
+use Rattle.entries.specs.Whole.{listsIn, Ruled}
+use Rattle.entries.specs.declared.header.Header.{Header}
+use Rattle.packing.specs.Packed.{Opens}
+use Rattle.packing.specs.Open.{lent}
+use Rattle.packing.specs.declared.Opened.{Opened}
+use Rattle.packing.proofs.OpenAs.{OpenAs, apart-as, open-ruled, open-lists}
+use Rattle.query_core.specs.Listed.{Listed}
 
 module _ (c : Call) (a : FrameAllocator) (ws : List ℕ) (e : shortBuffer c ≡ false) where
   -- a number that is not 0 refuses it
@@ -61,3 +68,21 @@ module _ (a : FrameAllocator) (ws before : List ℕ) where
             otherwise = λ n. absurd (n number);
           };
         }
+
+-- of the lists by another name
+pub listed-of : {l m : Lists} {before after : List ℕ} {x : Answer} → l ≡ m → Listed l before x after → Listed m before x after
+listed-of {before = before} {after = after} {x = x} e p = subst (λ (y : Lists). Listed y before x after) e p
+
+-- a record that the test let go on, opened
+module _ {a : FrameAllocator} {ws : List ℕ} {o : Opened} {es : List ℕ} (p : Opens a ws o es) (z : o .number ≡ 0) where
+  pub passed : checked a ws ≡ 0
+  passed = sym (p .number) ∙ z
+
+  stands : OpenAs (load a ws) (o .header) es ws
+  stands = apart-as a ws (p .apart) (checked-ruled a ws passed)
+
+  pub may-ask : Ruled (o .header) (lent (o .header .sorted) es ws)
+  may-ask = open-ruled stands
+
+  pub asked-lists : listsIn (o .header) (lent (o .header .sorted) es ws) ≡ load a ws
+  asked-lists = open-lists stands

@@ -53,11 +53,11 @@ fn sort(a: FrameAllocator, words: &mut [u64]) -> FrameAllocator {
 }
 
 fn give(a: FrameAllocator, words: &mut [u64], start: u64, end: u64) -> FrameAllocator {
-    told(returns::return_frames(a, words, FrameRange::new(start, end)))
+    told(calls::return_frames(a, words, FrameRange::new(start, end)))
 }
 
 fn request(a: FrameAllocator, words: &mut [u64], request: Request) -> FrameAllocator {
-    told(requests::allocate(a, words, request))
+    told(calls::allocate(a, words, request))
 }
 
 fn request_of(asked: usize, first: u64, second: u64) -> Request {

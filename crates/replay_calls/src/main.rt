@@ -27,7 +27,7 @@
 // has its runs, or `refused` and the number; the form and the four lists; or `(bad)`. The file `stdout` holds what document 01 and the Rust answer; oracle/README.md says how it was made.
 mod asked;
 mod broken;
-mod calls;
+mod lines_called;
 mod reading;
 mod shown;
 mod written;
@@ -89,5 +89,5 @@ fn answer_call(
     let read = lines::read_words(line, name_end, reading::layout_of(asked), numbers);
     let len = read.len;
     let numbers = &numbers[..len];
-    calls::answer(a, words, way, reading::checked(asked, read), numbers)
+    lines_called::answer(a, words, way, reading::checked(asked, read), numbers)
 }

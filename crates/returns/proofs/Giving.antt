@@ -1,23 +1,25 @@
 -- A return, test by test.
-use Prim.Native.Nat.{ℕ}
-use mathlib.Core.Path.{_≡_, refl, sym, ap, _∙_}
+use Prim.Native.Nat.{ℕ, _+_, _-_}
+use mathlib.Core.Path.{_≡_, refl, sym, ap, subst, _∙_}
 use mathlib.Core.Bool.{Bool, true, false}
 use mathlib.Core.List.{List}
+use lib.ListN.{take, drop}
+use borrow.Rule.Slice.PartMut.{putMid}
 use Rattle.memory_structs.specs.Range.{isEmpty, aboveTop, meets}
 use Rattle.memory_structs.specs.declared.range.FrameRange.{FrameRange}
+use Rattle.memory_structs.proofs.Bools.{if-cases}
 use Rattle.model.specs.Lists.{Lists, Slot, entries, anyOf, inUnion}
-use Rattle.model.specs.Requests.{refused, counted}
+use Rattle.model.specs.Requests.{Result, refused, counted}
 use Rattle.model.specs.Returns.{noPlace, giveGeneral, giveReserved, giveBack}
-use Rattle.model.specs.Store.{load, recordOf, wordsOf}
-use Rattle.model.specs.declared.Called.{Called}
-use Rattle.model.specs.declared.FrameAllocator.{FrameAllocator}
-use Rattle.lists.specs.declared.record.WhichList.{WhichList}
-use Rattle.lists.specs.declared.record.WhichList.the-variants.{GeneralFree, ReservedFree}
-use Rattle.lists.specs.Record.{slotsAt, withSlots, AllStored}
-use Rattle.lists.proofs.Whole.{same-slots}
-use Rattle.rules.specs.Check.{Ruled, Does, refusedWith, acceptedWith}
-use Rattle.rules.proofs.Going.{ruled-stands}
-use Rattle.rejoining.specs.Rejoins.{afterReturn}
+use Rattle.entries.specs.declared.header.WhichList.{WhichList}
+use Rattle.entries.specs.declared.header.WhichList.the-variants.{GeneralFree, ReservedFree}
+use Rattle.entries.specs.declared.header.Header.{Header}
+use Rattle.entries.specs.declared.header.Answered.{Answered}
+use Rattle.entries.specs.Part.{Stored, width, slotsIn}
+use Rattle.entries.specs.Whole.{partOf, lengthAt, withLength, listsIn, slotsAt, withSlots, headerOf, entriesOf, Ruled, Does, refusedWith, acceptedWith}
+use Rattle.entries.proofs.Whole.{same-slots, header-kept, lent-slots, lent-back}
+use Rattle.return_joining.specs.declared.PutBack.{PutBack}
+use Rattle.return_joining.specs.Rejoins.{afterReturn, GoesBack}
 use Rattle.returns.specs.Given.{anyFree, givenTo}
 
 module _ (r : FrameRange) (l : Lists) where
@@ -67,27 +69,41 @@ module _ (r : FrameRange) (l : Lists) where
           unfolding giveBack
           in-neither q = rw (some, low, held, sym e ∙ h, sym p ∙ q)
 
--- what the list stores stands in the record and the words, with a place and without one
-module _ (w : WhichList) (r : FrameRange) (a : FrameAllocator) (ws : List ℕ) {b : FrameAllocator} {after : List ℕ}
-    (st : AllStored (withSlots w (load a ws) (afterReturn (a .sorted) r (slotsAt w (load a ws)))) ws b after) where
-  pub no-change : Ruled a ws → noPlace (a .sorted) r (slotsAt w (load a ws)) ≡ true → after ≡ ws
-  unfolding afterReturn load
-  no-change u full =
-      st .words ∙ ap (λ (x : List Slot). wordsOf (withSlots w (load a ws) x) ws) (rw full) ∙ ap (λ (l : Lists). wordsOf l ws) (same-slots w (load a ws))
-      ∙ sym (ruled-stands a ws u .words)
+-- a return keeps the form
+pub same-form : (r : FrameRange) (l : Lists) → giveBack r l .lists .sorted ≡ l .sorted
+unfolding giveBack giveGeneral giveReserved refused counted
+same-form r l =
+    let P : Result → Type 0 = λ o. o .lists .sorted ≡ l .sorted in
+    if-cases P (isEmpty r) (λ _. refl) (λ _.
+    if-cases P (aboveTop r) (λ _. refl) (λ _.
+    if-cases P (anyFree r l) (λ _. refl) (λ _.
+    if-cases P (inUnion (entries (l .generalRegions)) r) (λ _. if-cases P (noPlace (l .sorted) r (l .generalFree)) (λ _. refl) (λ _. refl)) (λ _.
+    if-cases P (inUnion (entries (l .reservedRegions)) r) (λ _. if-cases P (noPlace (l .sorted) r (l .reservedFree)) (λ _. refl) (λ _. refl)) (λ _. refl)))))
 
-  pub no-place : (called : Called) → Ruled a ws → noPlace (a .sorted) r (slotsAt w (load a ws)) ≡ true → called ≡ refusedWith 18 a → Does (givenTo w r (load a ws)) ws called after
-  unfolding givenTo afterReturn load refused
-  no-place called u full e = rw full (record {
-    answers = ap (λ (x : Called). x .answer) e;
-    records = ap (λ (x : Called). x .allocator) e ∙ ruled-stands a ws u .records;
-    words = st .words ∙ ap (λ (x : List Slot). wordsOf (withSlots w (load a ws) x) ws) (rw full) ∙ ap (λ (l : Lists). wordsOf l ws) (same-slots w (load a ws));
+-- what the list stores stands in the header and the entries, with a place and without one
+module _ (w : WhichList) (r : FrameRange) (h : Header) (ws : List ℕ) {h' : Header} {after : List ℕ}
+    (st : (h' ≡ headerOf (withSlots w (listsIn h ws) (afterReturn (h .sorted) r (slotsAt w (listsIn h ws))))) × (after ≡ entriesOf (withSlots w (listsIn h ws) (afterReturn (h .sorted) r (slotsAt w (listsIn h ws)))) ws)) where
+  pub no-place : (d : Answered) → Ruled h ws → noPlace (h .sorted) r (slotsAt w (listsIn h ws)) ≡ true → d ≡ refusedWith 18 h → Does (givenTo w r (listsIn h ws)) ws d after
+  unfolding givenTo afterReturn listsIn refused
+  no-place d u full e = rw full (record {
+    answers = ap (λ (x : Answered). x .answer) e;
+    header = ap (λ (x : Answered). x .header) e ∙ header-kept h ws u;
+    words = st .1 ∙ ap (λ (x : List Slot). entriesOf (withSlots w (listsIn h ws) x) ws) (rw full) ∙ ap (λ (l : Lists). entriesOf l ws) (same-slots w (listsIn h ws));
   })
 
-  pub a-place : (called : Called) → noPlace (a .sorted) r (slotsAt w (load a ws)) ≡ false → called ≡ acceptedWith 0 b → Does (givenTo w r (load a ws)) ws called after
-  unfolding givenTo afterReturn load counted
-  a-place called room e = rw room (record {
-    answers = ap (λ (x : Called). x .answer) e;
-    records = ap (λ (x : Called). x .allocator) e ∙ st .allocator ∙ ap (λ (x : List Slot). recordOf (withSlots w (load a ws) x)) (rw room);
-    words = st .words ∙ ap (λ (x : List Slot). wordsOf (withSlots w (load a ws) x) ws) (rw room);
+  pub a-place : (d : Answered) → noPlace (h .sorted) r (slotsAt w (listsIn h ws)) ≡ false → d ≡ acceptedWith 0 h' → Does (givenTo w r (listsIn h ws)) ws d after
+  unfolding givenTo afterReturn listsIn counted
+  a-place d room e = rw room (record {
+    answers = ap (λ (x : Answered). x .answer) e;
+    header = ap (λ (x : Answered). x .header) e ∙ st .0 ∙ ap (λ (x : List Slot). headerOf (withSlots w (listsIn h ws) x)) (rw room);
+    words = st .1 ∙ ap (λ (x : List Slot). entriesOf (withSlots w (listsIn h ws) x) ws) (rw room);
   })
+
+-- a return in the lent part of a list, put back
+pub lent-stored : (r : FrameRange) (h : Header) (ws : List ℕ) (u : Ruled h ws) (w : WhichList) {k from n : ℕ} (e : k ≡ width (h .sorted)) (p : from ≡ partOf k w) (q : n ≡ lengthAt w h) {g : PutBack} {after : List ℕ}
+    → GoesBack (h .sorted) r (slotsIn (h .sorted) n (take ((from + k) - from) (drop from ws))) g after
+    → (withLength w h (g .len) ≡ headerOf (withSlots w (listsIn h ws) (afterReturn (h .sorted) r (slotsAt w (listsIn h ws)))))
+    × (putMid from ((from + k) - from) ws after ≡ entriesOf (withSlots w (listsIn h ws) (afterReturn (h .sorted) r (slotsAt w (listsIn h ws)))) ws)
+lent-stored r h ws u w e p q {g = g} {after = after} x =
+    lent-back h ws u w e p (afterReturn (h .sorted) r (slotsAt w (listsIn h ws))) (g .len) after
+    (subst (λ (s : List Slot). Stored (h .sorted) (afterReturn (h .sorted) r s) (g .len) after) (lent-slots h ws u w e p q) (x .stored))

@@ -11,7 +11,7 @@ use Rattle.model.specs.declared.Answer.{Answer}
 use Rattle.model.specs.declared.Called.{Called}
 use Rattle.model.specs.declared.FrameAllocator.{FrameAllocator}
 use Rattle.model.proofs.Claimed.{demand-3}
-use Rattle.commands.specs.Made.{Made}
+use Rattle.run_calls.specs.Made.{Made}
 use Rattle.run.specs.declared.RunEnd.{RunEnd}
 use Rattle.run.specs.Runs.{ranTo, answerWords, allAnswers, Buffers, none, next, RunsCalls, Demanded}
 

@@ -7,10 +7,10 @@ use lib.ListN.{length, take, drop, getD}
 use lib.Seq.{take-nil}
 use Rattle.model.specs.Calls.{Call}
 use Rattle.areas.proofs.Read.{next-three, none-left}
-use Rattle.commands.specs.Commands.{decoded, callIn}
-use Rattle.commands.specs.declared.RunCall.{RunCall}
-use Rattle.commands.specs.declared.Decoded.{Decoded}
-use Rattle.commands.specs.declared.Decoded.the-variants.{Make, Damaged}
+use Rattle.run_calls.specs.Commands.{decoded, callIn}
+use Rattle.run_calls.specs.declared.RunCall.{RunCall}
+use Rattle.run_calls.specs.declared.Decoded.{Decoded}
+use Rattle.run_calls.specs.declared.Decoded.the-variants.{Make, Damaged}
 use Rattle.run.specs.declared.RunEnd.{RunEnd}
 use Rattle.run.specs.declared.RunEnd.the-variants as end
 use Rattle.run.specs.Runs.{decodedIn, callsIn, endOf}

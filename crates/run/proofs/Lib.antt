@@ -1,4 +1,5 @@
 pub mod Along
 pub mod Left
-pub mod Quick
+pub mod Opened
 pub mod Turns
+pub mod Going

@@ -8,11 +8,11 @@ use Rattle.model.specs.Calls.{Call}
 use Rattle.model.specs.declared.Called.{Called}
 use Rattle.model.specs.declared.FrameAllocator.{FrameAllocator}
 use Rattle.rules.specs.Check.{checked}
-use Rattle.commands.specs.Commands.{callIn}
-use Rattle.commands.specs.Made.{Made}
-use Rattle.commands.specs.declared.RunCall.{RunCall}
-use Rattle.commands.specs.declared.Decoded.{Decoded}
-use Rattle.commands.specs.declared.Decoded.the-variants.{Make, Damaged}
+use Rattle.run_calls.specs.Commands.{callIn}
+use Rattle.run_calls.specs.Made.{Made}
+use Rattle.run_calls.specs.declared.RunCall.{RunCall}
+use Rattle.run_calls.specs.declared.Decoded.{Decoded}
+use Rattle.run_calls.specs.declared.Decoded.the-variants.{Make, Damaged}
 use Rattle.rules.proofs.Lasting.{test-lasts}
 use Rattle.run.specs.declared.Ran.{Ran}
 use Rattle.run.specs.declared.RunEnd.{RunEnd}

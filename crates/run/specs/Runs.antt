@@ -10,10 +10,12 @@ use Rattle.model.specs.History.{outcomes, recordAfter, wordsAfter, isGeneral, B
 use Rattle.model.specs.declared.Answer.{Answer}
 use Rattle.model.specs.declared.FrameAllocator.{FrameAllocator}
 use Rattle.areas.specs.Areas.{triples}
-use Rattle.commands.specs.Commands.{decoded, callIn}
-use Rattle.commands.specs.Made.{Left}
-use Rattle.commands.specs.declared.Decoded.{Decoded}
-use Rattle.commands.specs.declared.Decoded.the-variants.{Make, Damaged}
+use Rattle.entries.specs.declared.header.Header.{Header}
+use Rattle.packing.specs.Packed.{closed}
+use Rattle.run_calls.specs.Commands.{decoded, callIn}
+use Rattle.run_calls.specs.Made.{Left}
+use Rattle.run_calls.specs.declared.Decoded.{Decoded}
+use Rattle.run_calls.specs.declared.Decoded.the-variants.{Make, Damaged}
 use Rattle.run.specs.declared.Ending.{Ending}
 use Rattle.run.specs.declared.Ran.{Ran}
 use Rattle.run.specs.declared.RunEnd.{RunEnd}
@@ -48,6 +50,13 @@ ranWith e a = record { ending = e; allocator = a }
 
 abbrev pub ranTo : FrameAllocator → ℕ → RunEnd → Ran
 ranTo a n e = ranWith (record { made = n; end = e }) a
+
+-- ---- the record of a run
+
+-- the record as the calls made so far left it: closed from what stands open; a record that the test refuses stays as it was
+unfoldable pub recordNow : (number : ℕ) → FrameAllocator → Header → (slots : List ℕ) → FrameAllocator
+recordNow zero a h slots = closed a h slots
+recordNow (suc n) a h slots = a
 
 -- ---- what they leave
 

@@ -1,6 +1,6 @@
 -- `allocate` meets its contract: a walk of its MIR, by hand. The borrow of the record is opened, the record is read whole and goes to
--- `requests::allocate` with the words, the record that comes back is stored whole, and the borrow is closed at it.
--- All that the proof knows of `requests::allocate` is that it meets its contract.
+-- `calls::allocate` with the words, the record that comes back is stored whole, and the borrow is closed at it.
+-- All that the proof knows of `calls::allocate` is that it meets its contract.
 use mathlib.Core.Path.{_≡_, refl, ap}
 use Prim.Native.Nat.{ℕ}
 use mathlib.Core.List.{[], _∷_, List}
@@ -55,10 +55,10 @@ use Rattle.model.proofs.Called as T
 use Rattle.model.proofs.Called.Laws as T′
 use Rattle.requests.proofs.Request as E
 use Rattle.requests.proofs.Request.Laws as E′
-use Rattle.requests.proofs.allocate as core
-use Rattle.requests.proofs.allocate.Symbol as core-def
-use Rattle.requests.proofs.allocate.Symbol.{name as #core}
-use Rattle.requests.proofs.allocate.Met as core-thm
+use Rattle.calls.proofs.allocate as core
+use Rattle.calls.proofs.allocate.Symbol as core-def
+use Rattle.calls.proofs.allocate.Symbol.{name as #core}
+use Rattle.calls.proofs.allocate.Met as core-thm
 use Rattle.frame_allocator.proofs.allocate.Key.{name as #this}
 use Rattle.frame_allocator.proofs.allocate as this
 use Rattle.frame_allocator.proofs.allocate.Statement as stated
@@ -172,4 +172,4 @@ allocate-spec 𝓤 H 𝓜 𝓖 𝓡 =
     entered 𝓤 H (tripleOf 𝓤 H (𝓖 .A) this.signature (this.spec 𝓤 H (𝓖 .A) (𝓜 .mem) (𝓡 .run)))
     (tables 𝓤 H 𝓜 𝓡 code.env .C) (tables 𝓤 H 𝓜 𝓡 code.env .Λ) #this code.function (code.unfolded 𝓤 H 𝓜 𝓡)
     (meets 𝓤 H (𝓖 .A) (givenOf 𝓤 H 𝓜 𝓖) (𝓜 .mem) (𝓡 .run) (tablesOf 𝓤 H 𝓜 (tables 𝓤 H 𝓜 𝓡 code.env))
-    (cited 𝓤 H (Core 𝓤 H (𝓖 .A) (𝓜 .mem) (𝓡 .run)) 𝓜 𝓡 code.env #core core-def.routine code.calls-requests·allocate (core-thm.met 𝓤 H 𝓜 𝓖 𝓡)))
+    (cited 𝓤 H (Core 𝓤 H (𝓖 .A) (𝓜 .mem) (𝓡 .run)) 𝓜 𝓡 code.env #core core-def.routine code.calls-calls·allocate (core-thm.met 𝓤 H 𝓜 𝓖 𝓡)))

@@ -51,10 +51,10 @@ use Rattle.model.proofs.Called as T
 use Rattle.model.proofs.Called.Laws as T′
 use Rattle.memory_structs.proofs.range.FrameRange as E
 use Rattle.memory_structs.proofs.range.FrameRange.Laws as E′
-use Rattle.returns.proofs.return_frames as core
-use Rattle.returns.proofs.return_frames.Symbol as core-def
-use Rattle.returns.proofs.return_frames.Symbol.{name as #core}
-use Rattle.returns.proofs.return_frames.Met as core-thm
+use Rattle.calls.proofs.return_frames as core
+use Rattle.calls.proofs.return_frames.Symbol as core-def
+use Rattle.calls.proofs.return_frames.Symbol.{name as #core}
+use Rattle.calls.proofs.return_frames.Met as core-thm
 use Rattle.frame_allocator.proofs.return_frames.Key.{name as #this}
 use Rattle.frame_allocator.proofs.return_frames as this
 use Rattle.frame_allocator.proofs.return_frames.Statement as stated
@@ -168,4 +168,4 @@ return-frames-spec 𝓤 H 𝓜 𝓖 𝓡 =
     entered 𝓤 H (tripleOf 𝓤 H (𝓖 .A) this.signature (this.spec 𝓤 H (𝓖 .A) (𝓜 .mem) (𝓡 .run)))
     (tables 𝓤 H 𝓜 𝓡 code.env .C) (tables 𝓤 H 𝓜 𝓡 code.env .Λ) #this code.function (code.unfolded 𝓤 H 𝓜 𝓡)
     (meets 𝓤 H (𝓖 .A) (givenOf 𝓤 H 𝓜 𝓖) (𝓜 .mem) (𝓡 .run) (tablesOf 𝓤 H 𝓜 (tables 𝓤 H 𝓜 𝓡 code.env))
-    (cited 𝓤 H (Core 𝓤 H (𝓖 .A) (𝓜 .mem) (𝓡 .run)) 𝓜 𝓡 code.env #core core-def.routine code.calls-returns·return-frames (core-thm.met 𝓤 H 𝓜 𝓖 𝓡)))
+    (cited 𝓤 H (Core 𝓤 H (𝓖 .A) (𝓜 .mem) (𝓡 .run)) 𝓜 𝓡 code.env #core core-def.routine code.calls-calls·return-frames (core-thm.met 𝓤 H 𝓜 𝓖 𝓡)))

@@ -1,8 +1,8 @@
 -- `held_list`: refused by its buffer, by 3 or 11, or answered.
 use native.Mathlib.Omega.{arith}
-use mathlib.Core.Path.{sym, _∙_}
-use Rattle.rules.proofs.Numbers.{checked-ruled}
-use Rattle.queries.proofs.Asked.{held-short, held-refused, held-going}
+use mathlib.Core.Path.{subst}
+use Rattle.model.specs.Lists.{Lists}
+use Rattle.queries.proofs.Asked.{held-short, held-refused, held-going, passed, may-ask, asked-lists, listed-of}
 use borrow.Author.Needs.{needs}
 use Rattle.queries.proofs.held_list.Statement.{statement}
 use Rattle.queries.proofs.held_list.Tie as tie
@@ -11,35 +11,31 @@ without-frames-requires : tie.Need-without-frames-requires
 without-frames-requires c κs = search needs
 
 returns : tie.Need-returns
-returns c =
-    let s = c .before .before .before .before in
-    held-short (s .args .a) (s .args .words .now) (s .args .buffer .now) (omega arith) (c .without-frames .ensures)
+returns c = let s = c .before .before .before .before in held-short (s .args .a) (s .args .words .now) (s .args .buffer .now) (omega arith) (c .without-frames .ensures)
 
-check-requires : tie.Need-check-requires
-check-requires c κs = search needs
+slice-aggregate-open : tie.Need-slice-aggregate-open
+slice-aggregate-open c = search needs
+
+open-requires : tie.Need-open-requires
+open-requires c κs = search needs
 
 without-frames-requires-2 : tie.Need-without-frames-requires-2
 without-frames-requires-2 c κs = search needs
 
 returns-2 : tie.Need-returns-2
-returns-2 c =
-    let k = c .before .before .before in
-    let s = k .before .before .before in
-    held-refused (s .args .a) (s .args .words .now) (s .args .buffer .now) (omega arith) _ (c .before .before .check .ensures) (c .before .if2 .taken) (c .without-frames2 .ensures)
+returns-2 c = let o = c .before .before .before .before in let s = o .before .before .before .before .before in held-refused (s .args .a) (s .args .words .now) (s .args .buffer .now) (omega (arith, o .before .before .if1 .left)) _ (o .«open» .ensures .number) (c .before .if2 .taken) (c .without-frames2 .ensures)
 
-held-list-requires : tie.Need-held-list-requires
-held-list-requires c κs =
-    (checked-ruled _ _ (sym (c .before .before .check .ensures) ∙ c .before .if2 .left), omega arith)
+slice-aggregate-list-held : tie.Need-slice-aggregate-list-held
+slice-aggregate-list-held c = search needs
+
+list-held-requires : tie.Need-list-held-requires
+list-held-requires c κs = let i = c .before .before in let o = i .before .before .before in (may-ask (o .«open» .ensures) (i .if2 .left), omega (arith, o .before .before .if1 .left))
 
 same-length : tie.Need-same-length
 same-length c = search needs
 
 returns-3 : tie.Need-returns-3
-returns-3 c =
-    let g = c .before .before .before .before in
-    let k = g .before .before in
-    let s = k .before .before .before in
-    held-going (s .args .a) (s .args .words .now) (s .args .buffer .now) (omega arith) (sym (g .before .check .ensures) ∙ g .if2 .left) (c .before .before .held-list .ensures)
+returns-3 c = let k = c .before .before in let i = k .before .before .before in let o = i .before .before .before in let s = o .before .before .before .before .before in held-going (s .args .a) (s .args .words .now) (s .args .buffer .now) (omega (arith, o .before .before .if1 .left)) (passed (o .«open» .ensures) (i .if2 .left)) (listed-of (asked-lists (o .«open» .ensures) (i .if2 .left)) (k .list-held .ensures))
 
 pub held-list-spec : {M : Type 1} → statement M
 held-list-spec =
@@ -47,9 +43,11 @@ held-list-spec =
     (tie.spec
     without-frames-requires
     returns
-    check-requires
+    slice-aggregate-open
+    open-requires
     without-frames-requires-2
     returns-2
-    held-list-requires
+    slice-aggregate-list-held
+    list-held-requires
     same-length
     returns-3)

@@ -1,8 +1,8 @@
 -- `meet_request`: as what is asked for is met.
 use mathlib.Core.Path.{ap}
 use Rattle.model.specs.Calls.{answer}
-use Rattle.model.specs.Store.{load}
-use Rattle.rules.proofs.Going.{does-as}
+use Rattle.entries.specs.Whole.{listsIn}
+use Rattle.entries.proofs.Whole.{does-as}
 use Rattle.requests.specs.Asked.{callOf}
 use Rattle.requests.specs.declared.Request.{Request}
 use borrow.Author.Needs.{needs}
@@ -48,7 +48,7 @@ returns c =
     let e = c .before .before in
     let k = e .before .before .before in
     let s = k .before .before .before in
-    does-as (ap (λ (x : Request). answer (callOf x) (load (s .args .a) (s .args .words .now))) (k .request .given .1)) (e .count-frames .ensures)
+    does-as (ap (λ (x : Request). answer (callOf x) (listsIn (s .args .h) (s .args .lists .now))) (k .request .given .1)) (e .count-frames .ensures)
 
 same-length-2 : tie.Need-same-length-2
 same-length-2 c = search needs
@@ -59,7 +59,7 @@ returns-2 c =
     let e = c .before .before in
     let k = e .before .before .before in
     let s = k .before .before .before in
-    does-as (ap (λ (x : Request). answer (callOf x) (load (s .args .a) (s .args .words .now))) (k .request2 .given .1)) (e .count-bytes .ensures)
+    does-as (ap (λ (x : Request). answer (callOf x) (listsIn (s .args .h) (s .args .lists .now))) (k .request2 .given .1)) (e .count-bytes .ensures)
 
 same-length-3 : tie.Need-same-length-3
 same-length-3 c = search needs
@@ -70,7 +70,7 @@ returns-3 c =
     let e = c .before .before in
     let k = e .before .before .before in
     let s = k .before .before .before in
-    does-as (ap (λ (x : Request). answer (callOf x) (load (s .args .a) (s .args .words .now))) (k .request3 .given .1)) (e .frames-at .ensures)
+    does-as (ap (λ (x : Request). answer (callOf x) (listsIn (s .args .h) (s .args .lists .now))) (k .request3 .given .1)) (e .frames-at .ensures)
 
 same-length-4 : tie.Need-same-length-4
 same-length-4 c = search needs
@@ -81,7 +81,7 @@ returns-4 c =
     let e = c .before .before in
     let k = e .before .before .before in
     let s = k .before .before .before in
-    does-as (ap (λ (x : Request). answer (callOf x) (load (s .args .a) (s .args .words .now))) (k .request4 .given .1)) (e .bytes-at .ensures)
+    does-as (ap (λ (x : Request). answer (callOf x) (listsIn (s .args .h) (s .args .lists .now))) (k .request4 .given .1)) (e .bytes-at .ensures)
 
 same-length-5 : tie.Need-same-length-5
 same-length-5 c = search needs
@@ -92,7 +92,7 @@ returns-5 c =
     let e = c .before .before in
     let k = e .before .before .before in
     let s = k .before .before .before in
-    does-as (ap (λ (x : Request). answer (callOf x) (load (s .args .a) (s .args .words .now))) (k .request5 .given .1)) (e .general-frames-at .ensures)
+    does-as (ap (λ (x : Request). answer (callOf x) (listsIn (s .args .h) (s .args .lists .now))) (k .request5 .given .1)) (e .general-frames-at .ensures)
 
 pub meet-request-spec : {M : Type 1} → statement M
 meet-request-spec =

@@ -1,4 +1,0 @@
-pub mod Table
-pub mod Early
-pub mod Chosen
-pub mod Grown

@@ -1,4 +1,0 @@
-pub mod Decoding
-pub mod Sound
-pub mod Making
-pub mod Trying

@@ -1,6 +1,0 @@
-pub mod Entries
-pub mod Places
-pub mod Grant
-pub mod Rewritten
-pub mod Slots
-pub mod Placed

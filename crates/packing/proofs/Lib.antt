@@ -1,0 +1,5 @@
+pub mod Turns
+pub mod Closing
+pub mod Packed
+pub mod OpenAs
+pub mod Lending

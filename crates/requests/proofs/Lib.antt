@@ -1,0 +1,3 @@
+pub mod Asked
+pub mod Counted
+pub mod Searched
