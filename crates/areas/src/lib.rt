@@ -1,5 +1,7 @@
 // The areas of a boot map as a lent list of words, three to an area: document 01, "Areas come as a lent list of start, end and kind".
 // The third word is the kind: 0 is general, any other number reserved. Words after the last whole area are not read.
+#![tactic(auto)]
+
 ghost use Rattle.std.specs.Prelude.{◌≡◌, [], ◌∷◌, ◌+◌, ◌≤◌, length, get_or};
 ghost use Rattle.carving.specs.Ranges.{listed, range_list_of, ranges_in, Carvable, Appended};
 ghost use Rattle.areas.specs.Areas as spec;
@@ -10,14 +12,14 @@ use memory_structs::FrameRange;
 use model::Kind;
 
 // What the first two words of an area are: its first and last frame, or its address and its size in bytes.
-#[derive(Drop)]
+#[derive(Clone, Copy)]
 pub enum AreaUnit {
     Frames,
     Bytes,
 }
 
 // An area as boot takes it: the frames in its range, its kind, and whether 2 refuses it.
-#[derive(Drop)]
+#[derive(Clone, Copy)]
 pub struct BootArea {
     pub start: u64,
     pub end: u64,
@@ -27,7 +29,7 @@ pub struct BootArea {
 
 // What is known of all areas before the first is carved: the reserved ones in the given order, whether one of them is empty, and
 // whether 2 refuses any area.
-#[derive(Drop)]
+#[derive(Clone, Copy)]
 pub struct Collected {
     pub reserved: RangeList,
     pub any_empty: bool,
@@ -36,7 +38,7 @@ pub struct Collected {
 
 // The same while areas are collected, without the arrays of the reserved areas: those are lent, so that an area copies none.
 // `reserved_len` is how many there are, 33 where they are more than 32.
-#[derive(Drop)]
+#[derive(Clone, Copy)]
 pub struct Seen {
     pub reserved_len: usize,
     pub any_empty: bool,

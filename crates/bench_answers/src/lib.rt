@@ -1,4 +1,6 @@
 // What a line of `framebench` does and prints: document 01, "The bench program".
+#![tactic(auto)]
+
 ghost use Rattle.std.specs.Prelude.{◌≡◌, ◌≤◌, length};
 ghost use Rattle.rules.specs.Check.{Ruled};
 ghost use Rattle.model.specs.Calls.{boot_call};
@@ -17,14 +19,14 @@ use memory_structs::FrameRange;
 use model::{Area, Called, FrameAllocator, Kind};
 
 // What lives from line to line, beside the lent words.
-#[derive(Drop)]
+#[derive(Clone, Copy)]
 pub struct Bench {
     pub allocator: FrameAllocator,
     pub counts: AreaCounts,
 }
 
 // The bench after a line, and how many bytes of the buffer the line prints.
-#[derive(Drop)]
+#[derive(Clone, Copy)]
 pub struct Reply {
     pub bench: Bench,
     pub len: usize,

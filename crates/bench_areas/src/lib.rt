@@ -1,19 +1,21 @@
 // The areas that `framebench` collects for its boots: document 01, "The bench program". They stand in a lent list of words, three to an
 // area, as `boot::init` takes them.
+#![tactic(auto)]
+
 ghost use Rattle.std.specs.Prelude.{◌≡◌};
 ghost use Rattle.bench_areas.specs.Areas.{Few, Room, Collects, no_areas, words_used, count_of, one_more, word_of};
 
 use model::{Area, Kind};
 
 // How many areas were collected.
-#[derive(Drop)]
+#[derive(Clone, Copy)]
 pub struct AreaCounts {
     pub general: usize,
     pub reserved: usize,
 }
 
 // The counts with one area more, or none where 64 of its kind are there.
-#[derive(Drop)]
+#[derive(Clone, Copy)]
 pub enum Collecting {
     Taken(AreaCounts),
     Full,

@@ -1,4 +1,6 @@
 // The lines that `framebench` reads, and the commands that they are: document 01, "The bench program".
+#![tactic(auto)]
+
 ghost use Rattle.std.specs.Prelude.{◌≡◌, ◌∷◌, ◌++◌, ◌≤◌, length, take};
 ghost use Rattle.lines.specs.Words.{words_in};
 ghost use Rattle.bench_lines.specs.Commands as command;
@@ -7,7 +9,7 @@ ghost use Rattle.bench_lines.specs.Lines.{LineHeld};
 use lines::Word;
 
 // What a line asks for. `Bad` is any line that document 01 does not name.
-#[derive(Drop)]
+#[derive(Clone, Copy)]
 pub enum Command {
     Free(u64, u64),
     Reserved(u64, u64),

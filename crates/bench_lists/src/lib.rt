@@ -1,4 +1,6 @@
 // The line that `framebench` prints for one of the four lists: document 01, "The bench program".
+#![tactic(auto)]
+
 ghost use Rattle.std.specs.Prelude.{◌≡◌, ◌+◌, ◌≤◌, length};
 ghost use Rattle.memory_structs.specs.Range.{range};
 ghost use Rattle.model.specs.Lists.{entries};

@@ -1,4 +1,6 @@
 // The texts that `framebench` writes, each put at a place of a lent buffer: document 01, "The bench program".
+#![tactic(auto)]
+
 ghost use Rattle.std.specs.Prelude.{◌+◌, ◌≤◌, length};
 ghost use Rattle.bench_texts.specs.Texts.{Puts, decimal_text, range_text, refusal_line, answer_line};
 

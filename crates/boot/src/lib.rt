@@ -1,4 +1,6 @@
 // From a boot map to the four lists: document 01, "Boot" (000, `init`).
+#![tactic(auto)]
+
 ghost use Rattle.std.specs.Prelude.{◌≡◌, not};
 ghost use Rattle.model.specs.Calls.{boot_call, boot_bytes_call, Gives, no_entries};
 ghost use Rattle.model.specs.Store.{load};
@@ -14,7 +16,7 @@ use model::{Called, FrameAllocator};
 
 // What a boot needs of its areas, in whatever form they come: the reserved ones with what 5, 4 and 2 look at, and the pieces of the
 // general ones.
-#[derive(Drop)]
+#[derive(Clone, Copy)]
 pub struct Survey {
     pub collected: Collected,
     pub pieces: RangeList,

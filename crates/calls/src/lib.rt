@@ -1,5 +1,7 @@
 // The calls that change the lists and keep their form, requests and returns: on entries, on an allocator that stands open, and on a record
 // by value.
+#![tactic(auto)]
+
 ghost use Rattle.std.specs.Prelude.{◌≡◌, length};
 ghost use Rattle.model.specs.Calls.{count_call, count_bytes_call, address_call, address_bytes_call, general_call, return_call, answer, Gives};
 ghost use Rattle.entries.specs.Whole.{lists_in, Ruled, Does};
@@ -12,7 +14,7 @@ use memory_structs::FrameRange;
 use model::{Called, FrameAllocator};
 use requests::Request;
 
-#[derive(Drop)]
+#[derive(Clone, Copy)]
 pub enum Operation {
     Allocate(Request),
     Return(FrameRange),

@@ -1,11 +1,13 @@
 // Carving: a general area without its reserved areas. Document 01, "Carving" (000, `check_and_add_free_region`).
+#![tactic(auto)]
+
 ghost use Rattle.std.specs.Prelude.{◌≡◌, [], ◌∷◌, ◌≤◌, length};
 ghost use Rattle.memory_structs.specs.Range as range;
 ghost use Rattle.model.specs.Carving as model;
 ghost use Rattle.carving.specs.Ranges.{listed, range_list_of, ranges_in, Carvable, Appended};
 
 // Ranges in the order in which they came, the first 32 of them. `len` is 33 where there are more.
-#[derive(Drop)]
+#[derive(Clone, Copy)]
 pub struct RangeList {
     pub starts: [u64; 32],
     pub ends: [u64; 32],

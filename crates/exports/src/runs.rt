@@ -8,7 +8,7 @@ use run::{Ending, RunEnd};
 // What a run hands back: how many calls were made, and why it ended. 0: every call was made; 1: the next call is damaged; 2: the
 // answers' buffer has no room for the next call.
 #[repr(C)]
-#[derive(Drop)]
+#[derive(Clone, Copy)]
 pub struct RunCounts {
     pub made: usize,
     pub end: u64,

@@ -1,4 +1,6 @@
 // The last part of boot: the test that nothing meets (6), and the four lists in early form. Document 01, "Boot".
+#![tactic(auto)]
+
 ghost use Rattle.std.specs.Prelude.{◌≡◌, true, ◌++◌, ◌≤◌, length, drop};
 ghost use Rattle.memory_structs.specs.Range.{range, meets};
 ghost use Rattle.model.specs.Lists.{any_of, disjoint};

@@ -1,4 +1,6 @@
 // The public face: every call of document 01. A call that changes the record changes it in place; a question takes a copy.
+#![tactic(auto)]
+
 ghost use Rattle.model.specs.Calls.{boot_call, boot_bytes_call, sort_call, return_call, Gives};
 ghost use Rattle.requests.specs.Asked.{call_of};
 ghost use Rattle.rules.specs.Check.{answered_with};

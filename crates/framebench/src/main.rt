@@ -10,6 +10,8 @@
 //   (list)            prints the four lists
 //
 // A line above 128 bytes, and any other line, prints `(bad)`, and the next line is answered. A last line may lack its line end.
+#![tactic(auto)]
+
 ghost use Rattle.std.specs.Prelude.{◌≤◌, ◌<◌, length};
 ghost use Rattle.io.specs.Counts.{IsPrefixLen};
 ghost use Rattle.bench_lines.specs.Commands.{command_of};
@@ -21,7 +23,7 @@ use bench_answers::{Bench, Reply};
 use libc::{STDIN_FILENO, STDOUT_FILENO};
 
 // The bench, and how many bytes of the next line are held.
-#[derive(Drop)]
+#[derive(Clone, Copy)]
 struct Reached {
     bench: Bench,
     held: usize,

@@ -1,4 +1,6 @@
 // The held list's runs: document 01, "**held list**, the maximal runs of general frames not free, as pairs of words".
+#![tactic(auto)]
+
 ghost use Rattle.std.specs.Prelude.{◌≡◌, true, ◌+◌, ◌*◌, ◌≤◌, length};
 ghost use Rattle.model.specs.Rules.{tidy};
 ghost use Rattle.model.specs.Store.{table_slots};

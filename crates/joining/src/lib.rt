@@ -1,4 +1,6 @@
 // Reserved areas that overlap become one: document 01, "Boot" (000, `init`).
+#![tactic(auto)]
+
 ghost use Rattle.std.specs.Prelude.{◌≡◌, ◌<◌, length};
 ghost use Rattle.memory_structs.specs.Range.{range};
 ghost use Rattle.model.specs.Boot as model;
@@ -9,7 +11,7 @@ use carving::{RangeList, push_at};
 use memory_structs::{highest, lowest, meet};
 
 // The first area of a list, grown, and those of the others that are left.
-#[derive(Drop)]
+#[derive(Clone, Copy)]
 pub struct Absorbed {
     pub start: u64,
     pub end: u64,

@@ -1,24 +1,26 @@
 // The words of a line of text, parted by one space: numbers in decimal, below 2^64, and kinds of areas, read into lent words. For the
 // programs that replay the Rust's answers.
+#![tactic(auto)]
+
 ghost use Rattle.std.specs.Prelude.{◌≡◌, ◌≤◌, length, drop};
 ghost use Rattle.lines.specs.Words as words;
 
 // What the words that follow a name are: numbers, or areas of two numbers and a kind each.
-#[derive(Drop)]
+#[derive(Clone, Copy)]
 pub enum Layout {
     Numbers,
     Areas,
 }
 
 // What a word of the line stands for.
-#[derive(Drop)]
+#[derive(Clone, Copy)]
 pub enum Word {
     Number(u64),
     Nothing,
 }
 
 // How many numbers were read, and whether each word stood for one and had room.
-#[derive(Drop)]
+#[derive(Clone, Copy)]
 pub struct Reading {
     pub len: usize,
     pub valid: bool,

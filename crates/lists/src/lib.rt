@@ -1,4 +1,6 @@
 // One of the four lists, in whichever form it has: 32 slots in the record, or a table in its own part of the lent workspace.
+#![tactic(auto)]
+
 ghost use Rattle.std.specs.Prelude.{◌≡◌, true, false, ◌+◌, ◌*◌, ◌≤◌, ◌<◌, length};
 ghost use Rattle.memory_structs.specs.Range as range;
 ghost use Rattle.model.specs.Lists as model;
@@ -16,7 +18,7 @@ use model::{EarlyList, Place};
 pub use record::{WhichList, fresh, list_of, part_of, record_of, unused_slots, with_list};
 
 // In sorted form the list is the first `len` pairs of the table that is lent beside it, and every slot is unused.
-#[derive(Drop)]
+#[derive(Clone, Copy)]
 pub struct OneList {
     pub sorted: bool,
     pub early: EarlyList,

@@ -10,7 +10,7 @@ use memory_structs::FrameRange;
 use model::{EarlyList, FrameAllocator};
 
 // "Four: general free, reserved free, general regions, reserved regions."
-#[derive(Drop)]
+#[derive(Clone, Copy)]
 pub enum WhichList {
     GeneralFree,
     ReservedFree,

@@ -1,6 +1,8 @@
 // A boot map as a slice of area structs: document 01, "Areas come as a lent list of start, end and kind". A thin walk over the slice
 // copies the reserved areas, and another hands each area to the core that the word form has too (`areas::carve_area`), which carves the
 // general ones.
+#![tactic(auto)]
+
 ghost use Rattle.std.specs.Prelude.{[], ◌∷◌};
 ghost use Rattle.areas.specs.Areas.{pieces_in};
 ghost use Rattle.carving.specs.Ranges.{ranges_in, Carvable, Appended};

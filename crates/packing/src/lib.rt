@@ -1,5 +1,7 @@
 // An allocator is opened for calls and closed after them: from a record to a header and entries, and back. In early form the entries are
 // the record's slots as pairs of words, in sorted form the workspace.
+#![tactic(auto)]
+
 ghost use Rattle.std.specs.Prelude.{◌≡◌, ◌&&◌, ◌≤◌, length};
 ghost use Rattle.pairs.specs.Pairs.{IsPairs};
 ghost use Rattle.packing.specs.Packed.{interleaved, packed, starts_of, ends_of, flags_of, header_in, Closable, closed_with, Apart, Opens};
@@ -8,7 +10,7 @@ use entries::{Answered, Header};
 use model::{Called, FrameAllocator};
 
 // What the test says of the record, 0 where calls may go on, and the header that they begin with.
-#[derive(Drop)]
+#[derive(Clone, Copy)]
 pub struct Opened {
     pub number: u64,
     pub header: Header,

@@ -1,4 +1,6 @@
 // One of the lists of a record that keeps the rules, with its part of the words: counted, added up, searched, and an entry put in.
+#![tactic(auto)]
+
 ghost use Rattle.std.specs.Prelude.{◌≡◌, ◌≤◌, ◌<◌, length};
 ghost use Rattle.memory_structs.specs.Range.{range, meets};
 ghost use Rattle.model.specs.Lists as model;

@@ -1,5 +1,7 @@
 // Questions, which change nothing: the kind of a range, the free total of either free list, the held list. The record is taken by value
 // and the workspace lent to be read, so that the answer alone comes back.
+#![tactic(auto)]
+
 ghost use Rattle.std.specs.Prelude.{◌≡◌, ◌≤◌, length};
 ghost use Rattle.model.specs.Queries.{kind_of, total};
 ghost use Rattle.model.specs.Calls.{kind_call, total_call, Answers, ListsHeld};

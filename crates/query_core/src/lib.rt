@@ -1,4 +1,6 @@
 // What the lists of a header and entries that keep the rules say: document 01's three questions, which change nothing.
+#![tactic(auto)]
+
 ghost use Rattle.std.specs.Prelude.{◌≡◌, true, ◌≤◌, length};
 ghost use Rattle.model.specs.Rules.{tidy};
 ghost use Rattle.model.specs.Queries.{kind_of, total, HeldWritten};

@@ -1,4 +1,6 @@
 // Answers as words: 1 for yes, 0 for no and for 2, then the value, a range as its start and end. The number is returned.
+#![tactic(auto)]
+
 ghost use Rattle.memory_structs.specs.Answers.{shown_test, shown_number, shown_range, shown_split, shown_halves};
 ghost use Rattle.range_answers.specs.Words.{Written, unit_words, number_words, range_words, split_words, halves_words};
 

@@ -25,6 +25,8 @@
 //
 // A line of standard output is what the call answers, `done`, `granted` and the range, `counted` and the count, after which the held list
 // has its runs, or `refused` and the number; the form and the four lists; or `(bad)`. The file `stdout` holds what document 01 and the Rust answer; oracle/README.md says how it was made.
+#![tactic(auto)]
+
 mod asked;
 mod broken;
 mod lines_called;

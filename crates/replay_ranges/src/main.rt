@@ -1,5 +1,7 @@
 // Replays the range and frame calls of a fixed list. A line of standard input is a call's name and its numbers, four at the most; a
 // line of standard output is what our call answers. The file `stdout` holds what the Rust answered; oracle/README.md says how it was made.
+#![tactic(auto)]
+
 mod answers;
 mod written;
 

@@ -1,5 +1,7 @@
 // A grant from one list, in either form: the frames asked for leave the chunks that hold them, and what is left over goes back. The list
 // is pairs of words in its own part of a lent slice. Document 01, "Search and grant" (000, `allocate_from_chosen_chunk`).
+#![tactic(auto)]
+
 ghost use Rattle.std.specs.Prelude.{◌≡◌, true, false, [], ◌∷◌, ◌+◌, ◌-◌, ◌≤◌, ◌<◌};
 ghost use Rattle.memory_structs.specs.Range.{range};
 ghost use Rattle.model.specs.Lists.{bound, used};
@@ -15,7 +17,7 @@ use memory_structs::FrameRange;
 use request_search::Chosen;
 
 // Whether the list had a place for what is left over, and its length after the grant; without a place it is as it was.
-#[derive(Drop)]
+#[derive(Clone, Copy)]
 pub struct Taken {
     pub placed: bool,
     pub len: usize,

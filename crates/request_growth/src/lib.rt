@@ -1,5 +1,7 @@
 // Growth: frames that no list knows become a reserved region and are granted. Document 01, "Address, whole" (000,
 // `add_reserved_region_to_lists`).
+#![tactic(auto)]
+
 ghost use Rattle.std.specs.Prelude.{◌≡◌, ◌+◌, ◌-◌, ◌≤◌, ◌<◌, length};
 ghost use Rattle.memory_structs.specs.Range.{range};
 ghost use Rattle.model.specs.Lists as model;

@@ -1,5 +1,7 @@
 // The search for the chunks of one list that hold a request by address: document 01, "Address, in one list" (000,
 // `find_specific_chunk`). The list is in either form, in its own part of the lent entries.
+#![tactic(auto)]
+
 ghost use Rattle.std.specs.Prelude.{◌≡◌, true, suc, ◌*◌, ◌≤◌, ◌<◌, length};
 ghost use Rattle.memory_structs.specs.Range.{range};
 ghost use Rattle.model.specs.Lists.{range_at};
@@ -15,7 +17,7 @@ use model::Place;
 use pairs::Wanted;
 
 // Chunks in a row that hold a request: from which slot on, how many, and the range that they make up.
-#[derive(Drop)]
+#[derive(Clone, Copy)]
 pub struct Chosen {
     pub first: usize,
     pub many: usize,
@@ -24,14 +26,14 @@ pub struct Chosen {
 }
 
 // "*missing* (first absent frame, how many absent)"
-#[derive(Drop)]
+#[derive(Clone, Copy)]
 pub struct Absent {
     pub frame: u64,
     pub count: u64,
 }
 
 // What a search by address finds in one list.
-#[derive(Drop)]
+#[derive(Clone, Copy)]
 pub enum Search {
     NotFound,
     Missing(Absent),

@@ -1,5 +1,7 @@
 // One of the four lists of a header and entries that keep the rules: searched, and chunks taken out of it. Document 01, "Search and
 // grant".
+#![tactic(auto)]
+
 ghost use Rattle.std.specs.Prelude.{◌≡◌, ◌≤◌};
 ghost use Rattle.memory_structs.specs.Range.{range};
 ghost use Rattle.model.specs.Requests.{find};

@@ -1,5 +1,7 @@
 // Requests on a header and entries that keep the rules: by count and by address, in frames and in bytes, from all frames or from general
 // ones only. Document 01, "How a request is met" (000, `allocate_frames_deferred` and its callers).
+#![tactic(auto)]
+
 ghost use Rattle.model.specs.Calls.{answer};
 ghost use Rattle.entries.specs.Whole.{lists_in, Ruled, Does};
 ghost use Rattle.requests.specs.Asked.{call_of};
@@ -12,7 +14,7 @@ pub use by_count::{count_bytes, count_frames};
 use entries::{Answered, Header};
 
 // What is asked for.
-#[derive(Drop)]
+#[derive(Clone, Copy)]
 pub enum Request {
     // So many general frames, wherever they are, and general frames for so many bytes.
     Frames { num_frames: u64 },

@@ -1,5 +1,7 @@
 // A return to one list: the range is joined to a chunk that it touches, or becomes a chunk of its own. Document 01, "Return" (000,
 // `Drop for Frames`).
+#![tactic(auto)]
+
 ghost use Rattle.std.specs.Prelude.{◌≡◌, true, false, ◌≤◌};
 ghost use Rattle.memory_structs.specs.Range.{range, top};
 ghost use Rattle.model.specs.Lists as model;
@@ -14,7 +16,7 @@ ghost use Rattle.return_joining.specs.Rejoins.{GoesBack};
 use model::Place;
 
 // Whether the list had a place for the range, and its length after the return; without a place it is as it was.
-#[derive(Drop)]
+#[derive(Clone, Copy)]
 pub struct PutBack {
     pub placed: bool,
     pub len: usize,

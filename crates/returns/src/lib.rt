@@ -1,4 +1,6 @@
 // Returns: frames that were granted are free again. Document 01, "Return" (000, `Drop for Frames`; "`Drop`: an explicit return").
+#![tactic(auto)]
+
 ghost use Rattle.std.specs.Prelude.{◌≡◌, ◌≤◌};
 ghost use Rattle.memory_structs.specs.Range as ranges;
 ghost use Rattle.model.specs.Returns.{give_back};

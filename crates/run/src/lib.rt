@@ -1,5 +1,7 @@
 // A list of calls of any length, run from a record and its workspace: docs/RUN.md. The rules are tested once; what the calls give is what
 // they give where each is tested by itself (`test_lasts`, rules/proofs/Lasting).
+#![tactic(auto)]
+
 ghost use Rattle.std.specs.Prelude.{◌≡◌, ◌&&◌, ◌++◌, ◌+◌, ◌≤◌, length, take, drop};
 ghost use Rattle.packing.specs.Packed.{Closable};
 ghost use Rattle.run.specs.Runs.{record_now, ran_with, answer_words, Runs};
@@ -9,7 +11,7 @@ use model::{Answer, FrameAllocator};
 use run_calls::{Decoded, RunCall};
 
 // Why a run ended.
-#[derive(Drop)]
+#[derive(Clone, Copy)]
 pub enum RunEnd {
     Done,
     // At the next call's words, which are no call.
@@ -19,14 +21,14 @@ pub enum RunEnd {
 }
 
 // How many calls were made, and why no more.
-#[derive(Drop)]
+#[derive(Clone, Copy)]
 pub struct Ending {
     pub made: usize,
     pub end: RunEnd,
 }
 
 // What a run hands back: how it ended, and the record after it.
-#[derive(Drop)]
+#[derive(Clone, Copy)]
 pub struct Ran {
     pub ending: Ending,
     pub allocator: FrameAllocator,

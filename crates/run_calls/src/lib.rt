@@ -1,4 +1,6 @@
 // One call as three words, read and made: what the call is, and two numbers (docs/RUN.md). A list of them is run by `run`.
+#![tactic(auto)]
+
 ghost use Rattle.std.specs.Prelude.{◌≡◌, true, length};
 ghost use Rattle.model.specs.Calls.{Gives};
 ghost use Rattle.rules.specs.Check.{checked, Ruled};
@@ -17,14 +19,14 @@ use model::{Answer, Called, FrameAllocator, Kind};
 use requests::Request;
 
 // A call of a run: every call of demand 3 is one.
-#[derive(Drop)]
+#[derive(Clone, Copy)]
 pub enum RunCall {
     Change(FormCall),
     Keep(OpenCall),
 }
 
 // A call that may change the form: it is made on the record.
-#[derive(Drop)]
+#[derive(Clone, Copy)]
 pub enum FormCall {
     // So many areas of the lent list, from this one on.
     Boot(usize, usize),
@@ -33,7 +35,7 @@ pub enum FormCall {
 }
 
 // A call that keeps the form: it is made on the allocator as it stands open.
-#[derive(Drop)]
+#[derive(Clone, Copy)]
 pub enum OpenCall {
     Allocate(Request),
     Return(FrameRange),
@@ -43,7 +45,7 @@ pub enum OpenCall {
 }
 
 // What three words are.
-#[derive(Drop)]
+#[derive(Clone, Copy)]
 pub enum Decoded {
     Make(RunCall),
     Damaged,
