@@ -72,6 +72,11 @@ class Function:
                 self.step.setdefault(norm(new), new)
             if p[3]:
                 self.callee[new] = p[3]
+        self.arms = {}
+        for arm in data["arms"]:
+            for new, old, way in arm[2] if arm else []:
+                if not new.endswith("-own"):
+                    self.arms.setdefault((norm(old), tuple(way)), [arm[0], new])
         self.old_prev = {p[0]: p[1] for p in data["places"]}
 
     def chain(self, index):
@@ -127,31 +132,49 @@ class Turner:
 
     def fields(self, expr):
         """One dotted path, its parts renamed."""
-        parts = expr.split(".")
-        out = [parts[0]]
-        last = parts[0]
-        for p in parts[1:]:
-            if p == "before":
+        parts = [p for p in expr.split(".") if p != "before"]
+        out, i = [parts[0]], 1
+        while i < len(parts):
+            p = parts[i]
+            arm = None
+            for n in range(len(parts) - i - 1, -1, -1):
+                arm = self.fn.arms.get((norm(p), tuple(parts[i + 1:i + 1 + n])))
+                if arm:
+                    break
+            if arm and i == 1 and parts[0] == self.var:
+                out += arm
+                i += 1 + n
+                continue
+            if p in ("requires", "ensures"):
+                out.append(p)
+                if p == "requires" and i == 1 and parts[0] == self.var:
+                    names = (self.fn.d["pre"] or {}).get("fields") or []
+                else:
+                    path = self.fn.callee.get(out[-2])
+                    names = self.clause_of(path, p) if path else []
+                i += 1
+                if len(names) > 1 and all(names):
+                    k = 0
+                    while i < len(parts) and parts[i] == "1" and k < len(names) - 1:
+                        k += 1
+                        i += 1
+                    if k < len(names) - 1 and i < len(parts) and parts[i] == "0":
+                        i += 1
+                        out.append(names[k])
+                    elif k == len(names) - 1:
+                        out.append(names[k])
+                    else:
+                        out += ["1"] * k
                 continue
             q = p
-            if last in ("requires", "ensures") and p in self.index_names:
-                q = self.index_names[p]
-                self.index_names = {}
-            elif norm(p) in self.fn.step and (last not in self.fn.step.values()) and last not in ("args", "loop"):
-                q = self.fn.step[norm(p)]
-                if q in self.fn.callee:
-                    pass
-            if p in ("requires", "ensures"):
-                owner = out[-1]
-                path = self.fn.callee.get(owner, self.name if len(out) == 1 or p == "requires" and owner not in self.fn.callee else owner)
-                self.index_names = name_parts(self.clause_of(path, p))
-            elif q == p:
-                self.index_names = {} if p not in self.index_names else self.index_names
+            if i == 1 and parts[0] == self.var and p != "args":
+                q = self.fn.step.get(norm(p)) or self.fn.step.get(norm(re.sub(r"_holds$", "", p)), p)
             out.append(q)
-            last = q
+            i += 1
         return ".".join(out)
 
-    def body(self, text):
+    def body(self, text, var):
+        self.var = var
         self.index_names = {}
 
         def one(m):
@@ -183,6 +206,33 @@ class Turner:
                 fix = lambda x: re.sub(r"(?<![\w'.-])c(?![\w'-])", var, plain(x))
                 lets.append(f"    let {h} : {' '.join(fix(typ).split())} = {fix(b).strip()} in")
         return "\n" + "\n".join(lets) + "\n    " + plain(body).strip()
+
+
+def as_record(body, names):
+    """A tuple that answers several clauses gets their names."""
+    if not names or len(names) < 2:
+        return body
+    lead = re.match(r"((?:\s*let .*? in)*\s*)\((.*)\)\s*$", body, re.S)
+    if not lead:
+        return body
+    parts, depth, cur = [], 0, ""
+    for ch in lead[2]:
+        depth += (ch in "([{") - (ch in ")]}")
+        if depth < 0:
+            return body
+        if ch == "," and not depth:
+            parts.append(cur)
+            cur = ""
+        else:
+            cur += ch
+    if cur.strip():
+        parts.append(cur)
+    if len(parts) < len(names):
+        return body
+    if len(parts) > len(names):
+        parts = parts[: len(names) - 1] + ["(" + ",".join(parts[len(names) - 1:]).strip() + ")"]
+    rows = "\n".join(f"      {n} = {p.strip()};" for n, p in zip(names, parts))
+    return (lead[1].rstrip() or "") + " record {\n" + rows + "\n    }"
 
 
 def unalias(body, var):
@@ -250,17 +300,19 @@ def turn(folder, fn, clause_map, all_answers):
                 continue
             # aliases of places: let k = c.before.. in
             body = unalias(body, var)[0]
-            body = t.body(body)
+            body = t.body(body, var)
             body = re.sub(r"(?<![\w'.-])" + re.escape(var) + r"(?:\.before)+(?![\w.])", var, body)
             body = t.with_helpers(body, var)
+            body = as_record(body, fn.d["asked"].get(new))
             pre = [x for x in d if x.startswith("--")]
             mid = rest[:eq]
+            body = re.sub(r"^ +(?=\S)", "", body)
             out = pre + [f"pub {new} : goal.{new}"] + mid + [f"{new} {' '.join(args)} ={'' if body.startswith(chr(10)) else ''}{body if body.startswith(' ') or body.startswith(chr(10)) else ' ' + body}"]
             ans.append(("goal", "\n".join(out)))
             continue
         # a helper: what it says of a place becomes a `let` in each answer that cites it
         hm = re.match(r"((?:abbrev |unfoldable )*)(" + W + r") : (.*)$", code[0])
-        pm = re.search(r"\(([a-z]\w*) : tie\.([^\s()]+)\)", s)
+        pm = re.search(r"\(([a-z]\w*) : tie\.([^\s()]+)[^()]*\)", s)
         if not pm:
             ans.append(("plain", s))
             continue
@@ -268,7 +320,7 @@ def turn(folder, fn, clause_map, all_answers):
         eq = [k for k, x in enumerate(code) if re.match(re.escape(hname) + r"(?: [^:=]*)?=", x)]
         simple = hm and not hm[1] and len(eq) == 1 and not any(x.startswith("unfolding") for x in code)
         sig = "\n".join(code[: eq[0]] if eq else code)
-        tm = re.match(re.escape(hname) + r" : \(" + re.escape(pm[1]) + r" : tie\.[^\s()]+\)(?: →)?\s*(.*)$", sig, re.S)
+        tm = re.match(re.escape(hname) + r" : \(" + re.escape(pm[1]) + r" : tie\.[^()]+\)(?: →)?\s*(.*)$", sig, re.S)
         if not simple or not tm:
             t.warn.append(f"helper {hname} by hand")
             ans.append(("plain", s))
@@ -277,9 +329,9 @@ def turn(folder, fn, clause_map, all_answers):
         params = em[1].split()
         var = params[0]
         typ = unalias(tm[1], pm[1])[0]
-        typ = re.sub(r"(?<![\w'.-])" + re.escape(pm[1]) + r"(?![\w'-])", "c", t.body(typ))
+        typ = re.sub(r"(?<![\w'.-])" + re.escape(pm[1]) + r"(?![\w'-])", "c", t.body(typ, pm[1]))
         body = unalias(em[2], var)[0]
-        body = re.sub(r"(?<![\w'.-])" + re.escape(var) + r"(?![\w'-])", "c", t.body(body))
+        body = re.sub(r"(?<![\w'.-])" + re.escape(var) + r"(?![\w'-])", "c", t.body(body, var))
         lam = "".join(f"λ {p}. " for p in params[1:])
         t.helpers[hname] = (typ.strip(), lam + body.strip())
     # the loops
@@ -304,7 +356,29 @@ def turn(folder, fn, clause_map, all_answers):
 
 
 def loop(fn, n, d, code, t):
-    return "-- TODO " + json.dumps(fn.d["loops"]) + "\n" + "\n".join("-- " + x for x in d)
+    """An invariant or a measure: the variables that it takes become fields of `l`."""
+    kind, old = re.match(r"(invariant|decreases)-(.*)$", re.match(r".*? : tie\.(\S+)", code[0])[1]).groups()
+    k = next((i for i, (names, _) in enumerate(fn.d["loops"]) if norm(names[0]) == norm(old)), None)
+    if k is None:
+        t.warn.append(f"no loop today for {old}")
+        return "-- GONE\n" + "\n".join(d)
+    new, live = fn.d["loops"][k][0][1], fn.d["loops"][k][1]
+    changed = fn.d["changed"][k]
+    m = re.match(re.escape(n) + r"((?: [^=\s]+)*) =(.*)$", "\n".join(code[1:]), re.S)
+    if not m:
+        t.warn.append(f"{n}: no equation")
+        return "\n".join(d)
+    params, body = m[1].split(), m[2]
+    want = [("l.initial." if c else "l.") + v for v, c in zip(live, changed)] + ["l." + v for v, c in zip(live, changed) if c]
+    if len(params) != len(want):
+        t.warn.append(f"{n}: {len(params)} variables, today {want}")
+        return "-- GONE\n" + "\n".join(d)
+    for p, w in zip(params, want):
+        if p != "_":
+            body = re.sub(r"(?<![\w'.₀-₉\0-])" + re.escape(p) + r"(?![\w'₀-₉-])", w.replace(".", "\0"), body)
+    body = body.replace("\0", ".")
+    pre = "\n".join(x for x in d if x.startswith("--"))
+    return (pre + "\n" if pre else "") + f"abbrev pub {kind}-{new} : goal.{kind}-{new}\n{kind}-{new} l ={body}"
 
 
 def main():
