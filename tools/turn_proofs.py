@@ -77,6 +77,10 @@ class Function:
             for new, old, way in arm[2] if arm else []:
                 if not new.endswith("-own"):
                     self.arms.setdefault((norm(old), tuple(way)), [arm[0], new])
+        self.arg = {}
+        for old, new in data["args"]:
+            if old.startswith(".args .") and new.startswith(".args ."):
+                self.arg[norm(old[7:])] = new[7:]
         self.old_prev = {p[0]: p[1] for p in data["places"]}
 
     def chain(self, index):
@@ -121,6 +125,7 @@ def name_parts(req):
 class Turner:
     def __init__(self, fn, name, clause_map, all_answers):
         self.fn, self.name, self.clause_map, self.all = fn, name, clause_map, all_answers
+        self.texts = {}  # name -> body, of the abbreviations over a place
         self.helpers = {}  # name -> type and body, of the helpers that take a place
         self.warn = []
 
@@ -166,9 +171,11 @@ class Turner:
                     else:
                         out += ["1"] * k
                 continue
-            q = p
+            q = p.replace("-", "_")
+            if out[-1] == "args":
+                q = self.fn.arg.get(norm(p), q)
             if i == 1 and parts[0] == self.var and p != "args":
-                q = self.fn.step.get(norm(p)) or self.fn.step.get(norm(re.sub(r"_holds$", "", p)), p)
+                q = self.fn.step.get(norm(p)) or self.fn.step.get(norm(re.sub(r"_holds$", "", p)), q)
             out.append(q)
             i += 1
         return ".".join(out)
@@ -182,6 +189,12 @@ class Turner:
             return self.fields(m[0])
 
         text = re.sub(r"(?<![\w'.-])[A-Za-z_₀-₉'][\w'₀-₉-]*(?:\.[\w'₀-₉-]+)+", one, text)
+        return text
+
+    def written_out(self, text, var):
+        for _ in range(4):
+            for h, b in self.texts.items():
+                text = re.sub(r"(?<![\w'.-])" + re.escape(h) + r" [a-zA-Z]\w*(?:\.before)*(?![\w'.-])", "(" + re.sub(r"(?<![\w'.-])c(?![\w'-])", var, b).replace("\\", "\\\\") + ")", text)
         return text
 
     def with_helpers(self, body, var):
@@ -205,6 +218,7 @@ class Turner:
                 typ, b = self.helpers[h]
                 fix = lambda x: re.sub(r"(?<![\w'.-])c(?![\w'-])", var, plain(x))
                 lets.append(f"    let {h} : {' '.join(fix(typ).split())} = {fix(b).strip()} in")
+        lets = [self.written_out(x, var) for x in lets]
         return "\n" + "\n".join(lets) + "\n    " + plain(body).strip()
 
 
@@ -302,6 +316,7 @@ def turn(folder, fn, clause_map, all_answers):
             body = unalias(body, var)[0]
             body = t.body(body, var)
             body = re.sub(r"(?<![\w'.-])" + re.escape(var) + r"(?:\.before)+(?![\w.])", var, body)
+            body = t.written_out(body, var)
             body = t.with_helpers(body, var)
             body = as_record(body, fn.d["asked"].get(new))
             pre = [x for x in d if x.startswith("--")]
@@ -312,6 +327,11 @@ def turn(folder, fn, clause_map, all_answers):
             continue
         # a helper: what it says of a place becomes a `let` in each answer that cites it
         hm = re.match(r"((?:abbrev |unfoldable )*)(" + W + r") : (.*)$", code[0])
+        am = re.match(r"((?:abbrev |unfoldable )*)(" + W + r") : tie\.[^→]*→ .*?\n(?:abbrev )?\2 ([a-z]\w*) =(.*)$", "\n".join(code), re.S)
+        if am:
+            body = unalias(am[4], am[3])[0]
+            t.texts[am[2]] = re.sub(r"(?<![\w'.-])" + re.escape(am[3]) + r"(?![\w'-])", "c", " ".join(t.body(body, am[3]).split()))
+            continue
         pm = re.search(r"\(([a-z]\w*) : tie\.([^\s()]+)[^()]*\)", s)
         if not pm:
             ans.append(("plain", s))
@@ -373,10 +393,8 @@ def loop(fn, n, d, code, t):
     if len(params) != len(want):
         t.warn.append(f"{n}: {len(params)} variables, today {want}")
         return "-- GONE\n" + "\n".join(d)
-    for p, w in zip(params, want):
-        if p != "_":
-            body = re.sub(r"(?<![\w'.₀-₉\0-])" + re.escape(p) + r"(?![\w'₀-₉-])", w.replace(".", "\0"), body)
-    body = body.replace("\0", ".")
+    to = {p: w for p, w in zip(params, want) if p != "_"}
+    body = re.sub(r"(?<![\w'.₀-₉-])(" + "|".join(sorted(map(re.escape, to), key=len, reverse=True)) + r")(?![\w'₀-₉-])", lambda x: to[x[1]], body)
     pre = "\n".join(x for x in d if x.startswith("--"))
     return (pre + "\n" if pre else "") + f"abbrev pub {kind}-{new} : goal.{kind}-{new}\n{kind}-{new} l ={body}"
 
