@@ -1,0 +1,14 @@
+-- `early::count`: at each turn n of the first i slots are used.
+use native.Mathlib.Omega.{arith}
+use mathlib.Core.Path.{◌≡◌, ap}
+use mathlib.Core.Logic.{⊎_elim}
+use Prim.Native.Nat.{◌+◌, ◌-◌, ◌≤◌}
+use lib.ListN.{length}
+use Rattle.early.proofs.UsedSlots.{entries_from, one_used, none_used_holds, none_left}
+use Rattle.early.proofs.count.Given as goal
+
+abbrev pub invariant-loop-i : goal.invariant-loop-i
+invariant-loop-i l = (l.i ≤ 32) × (l.n ≤ l.i) × (length (entries_from 0 l.l) ≡ l.n + length (entries_from l.i l.l))
+
+abbrev pub decreases-loop-i : goal.decreases-loop-i
+decreases-loop-i l = 32 - l.i

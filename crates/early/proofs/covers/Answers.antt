@@ -1,0 +1,15 @@
+-- `early::covers`: slots that have no frame twice have every frame of the range where they have as many.
+use mathlib.Core.Path.{ap, ◌∙◌}
+use Prim.Native.Nat.{ℕ, ◌-◌}
+use lib.Dec.{ltb}
+use borrow.Author.Rules.{rules}
+use Rattle.model.specs.Store.{slots_of}
+use Rattle.model.proofs.Ruled.{tidy_is}
+use Rattle.early.specs.Slots.{early_list_of}
+use Rattle.early.proofs.Covered.{counted}
+use Rattle.early.proofs.covers.Goals as goal
+
+pub returns : goal.returns
+returns c = let a = c.args in
+    ap (λ (n : ℕ). ltb (a.end - a.start) n) c.frames_in.ensures
+    ∙ counted (slots_of (early_list_of a.starts.now a.ends.now a.used.now)) (tidy_is _ _ c.requires.used_value).once a.start a.end c.requires.start_le_end
