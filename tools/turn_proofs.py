@@ -126,6 +126,7 @@ class Turner:
     def __init__(self, fn, name, clause_map, all_answers):
         self.fn, self.name, self.clause_map, self.all = fn, name, clause_map, all_answers
         self.texts = {}  # name -> body, of the abbreviations over a place
+        self.cited = set()
         self.helpers = {}  # name -> type and body, of the helpers that take a place
         self.warn = []
 
@@ -249,15 +250,59 @@ def as_record(body, names):
     return (lead[1].rstrip() or "") + " record {\n" + rows + "\n    }"
 
 
+def group(text, i):
+    """The end of the parenthesized group that begins at i."""
+    depth = 0
+    for k in range(i, len(text)):
+        depth += (text[k] == "(") - (text[k] == ")")
+        if not depth:
+            return k + 1
+    return None
+
+
+def by_elim(text, cited):
+    """`⊎_elim (λ w. A) (λ w. B) c.if-X.branch` as an `elim`, whose arms have names."""
+    while True:
+        at = text.find("⊎_elim")
+        if at < 0:
+            return text
+        i = at + len("⊎_elim")
+        arms = []
+        for _ in range(2):
+            while text[i] in " \n":
+                i += 1
+            if text[i] != "(":
+                return text
+            j = group(text, i)
+            arms.append(text[i + 1:j - 1])
+            i = j
+        m = re.match(r"\s*([\w'.-]+\.)(if|else|loop)-([\w'-]+)\.branch", text[i:])
+        if not m:
+            return text.replace("⊎_elim", "⊎_elim?")
+        out = []
+        for kind, field, old, arm in (("then", "true", "taken", arms[0]), ("else", "false", "left", arms[1])):
+            a = re.match(r"\s*λ (\w+)\.\s*(.*)$", arm, re.S)
+            if not a:
+                return text.replace("⊎_elim", "⊎_elim?")
+            b = re.sub(r"(?<![\w'.-])" + a[1] + r"\.0\.(?:" + old + "|" + field + ")", f"{a[1]}.{m[2]}-{m[3]}.{field}", a[2])
+            out.append(f"{kind}-{m[3]} {a[1]} ↦ {b.strip()}")
+            cited.add(f"{kind}-{m[3]}")
+        text = text[:at] + f"elim {m[1]}{m[2]}-{m[3]}.branch [ {out[0]}\n      | {out[1]} ]" + text[i + m.end():]
+
+
 def unalias(body, var):
     """The text with each `let k = c.before.. in` written out."""
     alias = []
     while True:
-        am = re.search(r"let (" + W + r") = ((?:" + "|".join(map(re.escape, [var] + alias)) + r")(?:\.before)*) in\n? *", body)
+        am = re.search(r"let (" + W + r") = ((?:" + "|".join(map(re.escape, [var] + alias)) + r")(?:\.before)*((?:\.[\w'-]+)*)) in\n? *", body)
+        tail = am[3] if am else ""
+        while am and (re.match(r"\.(args|loop)\b[^.]*$", tail) or tail.count(".") > 0 and not re.search(r"requires|ensures|given|^\.[\w'-]+$", tail)):
+            am = re.compile(r"let (" + W + r") = ((?:" + "|".join(map(re.escape, [var] + alias)) + r")(?:\.before)*((?:\.[\w'-]+)*)) in\n? *").search(body, am.end())
+            tail = am[3] if am else ""
         if not am:
             return body, alias
-        body = body.replace(am[0], "", 1)
-        body = re.sub(r"(?<![\w'.-])" + re.escape(am[1]) + r"(?![\w'-])", var, body)
+        body = body[: am.start()] + body[am.end():]
+        body = re.sub(r"(?<![\w'.-])" + re.escape(am[1]) + r"(?![\w'-])", var + tail, body)
 
 
 def turn(folder, fn, clause_map, all_answers):
@@ -318,7 +363,7 @@ def turn(folder, fn, clause_map, all_answers):
             body = re.sub(r"(?<![\w'.-])" + re.escape(var) + r"(?:\.before)+(?![\w.])", var, body)
             body = t.written_out(body, var)
             body = t.with_helpers(body, var)
-            body = as_record(body, fn.d["asked"].get(new))
+            body = as_record(by_elim(body, t.cited), fn.d["asked"].get(new))
             pre = [x for x in d if x.startswith("--")]
             mid = rest[:eq]
             body = re.sub(r"^ +(?=\S)", "", body)
@@ -348,7 +393,7 @@ def turn(folder, fn, clause_map, all_answers):
         em = re.match(re.escape(hname) + r"((?: [^=\s]+)*) =(.*)$", "\n".join(code[eq[0]:]), re.S)
         params = em[1].split()
         var = params[0]
-        typ = unalias(tm[1], pm[1])[0]
+        typ = re.sub(r"^→\s*", "", unalias(tm[1], pm[1])[0].strip())
         typ = re.sub(r"(?<![\w'.-])" + re.escape(pm[1]) + r"(?![\w'-])", "c", t.body(typ, pm[1]))
         body = unalias(em[2], var)[0]
         body = re.sub(r"(?<![\w'.-])" + re.escape(var) + r"(?![\w'-])", "c", t.body(body, var))
@@ -369,7 +414,7 @@ def turn(folder, fn, clause_map, all_answers):
         made.append("Invariants")
     if ans:
         with open(os.path.join(folder, "Answers.antt"), "w", encoding="utf-8") as f:
-            f.write("\n".join([heading] + crate_use + [f"use {module}.Goals as goal"]).lstrip("\n") + "\n\n" + "\n\n".join(ans) + "\n")
+            f.write("\n".join([heading] + crate_use + [f"use {module}.Goals as goal"] + ([f"use {module}.Goals.{{{', '.join(sorted(t.cited))}}}"] if t.cited else [])).lstrip("\n") + "\n\n" + "\n\n".join(ans) + "\n")
         made.append("Answers")
     os.remove(path)
     print(f"{folder}: {' '.join(made) or 'nothing left'}" + "".join("\n    " + w for w in t.warn))

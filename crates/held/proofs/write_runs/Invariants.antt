@@ -1,0 +1,15 @@
+-- `write_runs`: at each turn a region is done with, or a chunk.
+use Prim.Native.Nat.{ℕ, ◌+◌, ◌-◌}
+use native.Mathlib.Omega.{arith}
+use mathlib.Core.Path.{sym, subst, ◌∙◌}
+use Rattle.tables.proofs.Search.{pair_at}
+use Rattle.tables.proofs.Sums.{tidy_pair}
+use Rattle.held.specs.Runs.{put_count, put_words}
+use Rattle.held.proofs.Walk.{Walked, walk_start, walk_ends, walk_length, walk_room, chunk_there, chunk_above, region_done, chunk_done}
+use Rattle.held.proofs.write_runs.Given as goal
+
+abbrev pub invariant-loop-i : goal.invariant-loop-i
+invariant-loop-i l = Walked l.regions_len l.regions l.chunks_len l.chunks l.initial.buffer l.buffer l.i l.j l.from l.runs
+
+abbrev pub decreases-loop-i : goal.decreases-loop-i
+decreases-loop-i l = (l.regions_len - l.i) + (l.chunks_len - l.j)

@@ -1,0 +1,11 @@
+-- `meet`: at each turn the pair that ends below the other is passed.
+use native.Mathlib.Omega.{arith}
+use Prim.Native.Nat.{◌+◌, ◌-◌}
+use Rattle.table_rules.proofs.Meeting.{Passed, passed_start, first_below, second_below, first_ends, second_ends, pair_meets}
+use Rattle.table_rules.proofs.meet.Given as goal
+
+abbrev pub invariant-loop-i : goal.invariant-loop-i
+invariant-loop-i l = Passed l.t_len l.t l.u_len l.u l.i l.j
+
+abbrev pub decreases-loop-i : goal.decreases-loop-i
+decreases-loop-i l = (l.t_len - l.i) + (l.u_len - l.j)
