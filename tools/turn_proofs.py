@@ -127,6 +127,7 @@ class Turner:
         self.fn, self.name, self.clause_map, self.all = fn, name, clause_map, all_answers
         self.texts = {}  # name -> body, of the abbreviations over a place
         self.cited = set()
+        self.unfold, self.now_unfold = {}, []
         self.helpers = {}  # name -> type and body, of the helpers that take a place
         self.warn = []
 
@@ -173,7 +174,7 @@ class Turner:
                         out += ["1"] * k
                 continue
             q = p.replace("-", "_")
-            if out[-1] == "args":
+            if out[-1] == "args" or re.match(r"t\d+$", p):
                 q = self.fn.arg.get(norm(p), q)
             if i == 1 and parts[0] == self.var and p != "args":
                 q = self.fn.step.get(norm(p)) or self.fn.step.get(norm(re.sub(r"_holds$", "", p)), q)
@@ -208,6 +209,7 @@ class Turner:
         if not cited:
             return body
         lets = []
+        self.now_unfold = sorted({x for h in cited for x in self.unfold.get(h, [])})
 
         def plain(x):
             for h in self.helpers:
@@ -242,6 +244,19 @@ def as_record(body, names):
             cur += ch
     if cur.strip():
         parts.append(cur)
+    while len(parts) < len(names) and re.match(r"\s*\(", parts[-1]) and group(parts[-1].strip(), 0) == len(parts[-1].strip()):
+        inner, depth, cur = [], 0, ""
+        for ch in parts[-1].strip()[1:-1]:
+            depth += (ch in "([{") - (ch in ")]}")
+            if ch == "," and not depth:
+                inner.append(cur)
+                cur = ""
+            else:
+                cur += ch
+        inner.append(cur)
+        if len(inner) < 2:
+            return body
+        parts = parts[:-1] + [inner[0], inner[1] if len(inner) == 2 else "(" + ",".join(inner[1:]).strip() + ")"]
     if len(parts) < len(names):
         return body
     if len(parts) > len(names):
@@ -285,6 +300,7 @@ def by_elim(text, cited):
             if not a:
                 return text.replace("⊎_elim", "⊎_elim?")
             b = re.sub(r"(?<![\w'.-])" + a[1] + r"\.0\.(?:" + old + "|" + field + ")", f"{a[1]}.{m[2]}-{m[3]}.{field}", a[2])
+            b = re.sub(r"(let \w+ : [\w.'-]*\.([\w']+) ≡ [^=]*= " + a[1] + r")\.\d+(?![\w.])", r"\1.\2-is", b)
             out.append(f"{kind}-{m[3]} {a[1]} ↦ {b.strip()}")
             cited.add(f"{kind}-{m[3]}")
         text = text[:at] + f"elim {m[1]}{m[2]}-{m[3]}.branch [ {out[0]}\n      | {out[1]} ]" + text[i + m.end():]
@@ -355,7 +371,7 @@ def turn(folder, fn, clause_map, all_answers):
             var = args[0] if args else "c"
             body = (mm[2] + ("\n" + "\n".join(rest[eq + 1:]) if rest[eq + 1:] else "")).strip("\n")
             flat = " ".join(body.split())
-            if flat in TRIVIAL and not all_answers:
+            if flat in TRIVIAL and not all_answers and not any(x.startswith("unfolding") for x in rest[:eq]):
                 continue
             # aliases of places: let k = c.before.. in
             body = unalias(body, var)[0]
@@ -363,9 +379,15 @@ def turn(folder, fn, clause_map, all_answers):
             body = re.sub(r"(?<![\w'.-])" + re.escape(var) + r"(?:\.before)+(?![\w.])", var, body)
             body = t.written_out(body, var)
             body = t.with_helpers(body, var)
-            body = as_record(by_elim(body, t.cited), fn.d["asked"].get(new))
+            body = re.sub(r"\(not-(?:true|false) _ (" + re.escape(var) + r"\.if-not-[\w'+-]+\.(?:true|false))\)", r"\1", body)
+            body = re.sub(r"not-(?:true|false) _ (" + re.escape(var) + r"\.if-not-[\w'+-]+\.(?:true|false))", r"\1", body)
+            body = as_record(by_elim(body, t.cited), fn.d["asked"].get(new) or fn.d["asked"].get(fn.d["needs"][i][0] if i is not None else ""))
             pre = [x for x in d if x.startswith("--")]
             mid = rest[:eq]
+            if t.now_unfold:
+                words = sorted({w for x in mid + t.now_unfold if x.startswith("unfolding") for w in x.split()[1:]})
+                mid = [x for x in mid if not x.startswith("unfolding")] + ["unfolding " + " ".join(words)]
+                t.now_unfold = []
             body = re.sub(r"^ +(?=\S)", "", body)
             out = pre + [f"pub {new} : goal.{new}"] + mid + [f"{new} {' '.join(args)} ={'' if body.startswith(chr(10)) else ''}{body if body.startswith(' ') or body.startswith(chr(10)) else ' ' + body}"]
             ans.append(("goal", "\n".join(out)))
@@ -383,7 +405,10 @@ def turn(folder, fn, clause_map, all_answers):
             continue
         hname = hm[2] if hm else "?"
         eq = [k for k, x in enumerate(code) if re.match(re.escape(hname) + r"(?: [^:=]*)?=", x)]
-        simple = hm and not hm[1] and len(eq) == 1 and not any(x.startswith("unfolding") for x in code)
+        simple = hm and not hm[1] and len(eq) == 1
+        unf = [x for x in code if x.startswith("unfolding")]
+        code = [x for x in code if not x.startswith("unfolding")]
+        eq = [k for k, x in enumerate(code) if re.match(re.escape(hname) + r"(?: [^:=]*)?=", x)]
         sig = "\n".join(code[: eq[0]] if eq else code)
         tm = re.match(re.escape(hname) + r" : \(" + re.escape(pm[1]) + r" : tie\.[^()]+\)(?: →)?\s*(.*)$", sig, re.S)
         if not simple or not tm:
@@ -398,6 +423,7 @@ def turn(folder, fn, clause_map, all_answers):
         body = unalias(em[2], var)[0]
         body = re.sub(r"(?<![\w'.-])" + re.escape(var) + r"(?![\w'-])", "c", t.body(body, var))
         lam = "".join(f"λ {p}. " for p in params[1:])
+        t.unfold[hname] = unf
         t.helpers[hname] = (typ.strip(), lam + body.strip())
     # the loops
     invs = []
