@@ -1,0 +1,15 @@
+-- `count`: by the form.
+use mathlib.Core.Path.{◌≡◌, refl, sym, ap, ◌∙◌}
+use lib.ListN.{length}
+use Rattle.model.specs.Lists.{entries}
+use Rattle.entries.proofs.Part.{as_pairs, sorted_count, at_early}
+use Rattle.entries.proofs.count.Goals as goal
+
+pub returns-then-sorted : goal.returns-then-sorted
+returns-then-sorted c = sym (sorted_count c.requires c.if-sorted.true)
+
+pub count-requires : goal.count-requires
+count-requires c = (as_pairs c.requires c.if-sorted.false).size
+
+pub returns : goal.returns
+returns c = let a = c.args in c.count.ensures ∙ sym (at_early (λ b x. length (entries x)) a.len a.t.now c.if-sorted.false)

@@ -1,0 +1,47 @@
+-- `insert`: the insert of the form.
+use native.Mathlib.Omega.{arith}
+use mathlib.Core.Path.{◌≡◌, refl, sym, ap, ◌∙◌}
+use Prim.Native.Nat.{◌+◌, ◌<◌}
+use Rattle.memory_structs.specs.Range.{range}
+use Rattle.model.specs.Lists.{insert}
+use Rattle.model.specs.Rules.{slotted}
+use Rattle.model.specs.Store.{table_slots}
+use Rattle.model.proofs.Stored.{table_length}
+use Rattle.tables.proofs.Search.{length_inserted}
+use Rattle.tables.proofs.Table.{table_inserted}
+use Rattle.entries.proofs.Part.{as_table, as_pairs, at_sorted, room, sorted_after, early_after}
+use borrow.Author.Rules.{rules}
+use Rattle.tables.proofs.insert.Reads as insert-reads'
+use Rattle.entries.proofs.insert.Goals as goal
+
+pub insert-requires : goal.insert-requires
+unfolding slotted
+insert-requires c =
+    let in_table : c.args.len < 512 = room c.requires.part c.if-sorted.true c.requires.t_len_bound in
+    let e = c.if-sorted.true in record {
+      len_in_bounds = omega (arith, (as_table c.requires.part e).size, in_table);
+      t_value = sym (at_sorted slotted c.args.len c.args.t.now e) ∙ c.requires.t_value;
+    }
+
+pub overflow_add-result : goal.overflow_add-result
+overflow_add-result c =
+    let in_table : c.args.len < 512 = room c.requires.part c.if-sorted.true c.requires.t_len_bound in
+    omega (arith, in_table)
+
+pub returns-then-sorted : goal.returns-then-sorted
+unfolding insert
+returns-then-sorted c =
+    let in_table : c.args.len < 512 = room c.requires.part c.if-sorted.true c.requires.t_len_bound in
+    let a = c.args in
+    let r = range a.start a.end in
+    sorted_after (λ b x. insert b r x) c.requires.part c.if-sorted.true
+    (omega (arith, length_inserted r (table_slots a.len a.t.now), table_length a.len a.t.now))
+    (c.insert.ensures ∙ table_inserted (as_table c.requires.part c.if-sorted.true) in_table r)
+
+pub insert-requires-2 : goal.insert-requires-2
+insert-requires-2 c = as_pairs c.requires.part c.if-sorted.false
+
+pub returns : goal.returns
+unfolding insert
+returns c = let a = c.args in
+    early_after (λ b x. insert b (range a.start a.end) x) c.requires.part c.if-sorted.false c.insert-2.ensures
