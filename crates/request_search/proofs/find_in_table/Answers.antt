@@ -1,0 +1,32 @@
+-- `find_in_table`: from the highest pair that starts at or below the request.
+use mathlib.Core.Path.{◌≡◌, sym, ap, ◌∙◌}
+use lib.Dec.{leb}
+use Rattle.memory_structs.specs.Range.{range}
+use Rattle.memory_structs.specs.declared.range.FrameRange.{FrameRange}
+use Rattle.model.specs.Lists.{last_where}
+use Rattle.model.specs.declared.Place.TheVariants.{At}
+use Rattle.model.specs.Store.{table_slots}
+use Rattle.tables.proofs.Touching.{pair_bound}
+use Rattle.request_search.specs.Searches.{found_of}
+use Rattle.request_search.proofs.Table.{found_in, nothing_below}
+use borrow.Author.Rules.{rules}
+use Rattle.request_search.proofs.find_in_table.Goals as goal
+
+pub highest_at_or_below-requires : goal.highest_at_or_below-requires
+highest_at_or_below-requires c = c.requires
+
+pub from_chunk-requires : goal.from_chunk-requires
+from_chunk-requires c =
+    let found : At c.in-At.i ≡ last_where (λ (r : FrameRange). leb r.start c.args.start) (table_slots c.args.len c.args.t.now) = sym c.in-At.is ∙ c.highest_at_or_below.ensures in
+    (c.requires.len_in_bounds, pair_bound _ _ _ _ found)
+
+pub returns-in-At : goal.returns-in-At
+returns-in-At c =
+    let found : At c.in-At.i ≡ last_where (λ (r : FrameRange). leb r.start c.args.start) (table_slots c.args.len c.args.t.now) = sym c.in-At.is ∙ c.highest_at_or_below.ensures in
+    let a = c.args in
+    c.from_chunk.ensures ∙ found_in (range a.start a.end) (table_slots a.len a.t.now) (At c.in-At.i) found
+
+pub returns-in-Nowhere : goal.returns-in-Nowhere
+unfolding found_of
+returns-in-Nowhere c = let a = c.args in
+    nothing_below (range a.start a.end) (table_slots a.len a.t.now) (sym c.in-Nowhere.is ∙ c.highest_at_or_below.ensures)
