@@ -4,8 +4,8 @@ use Prim.Native.Nat.{ℕ, zero, suc, ◌+◌, ◌-◌, ◌≤◌, ◌<◌}
 use mathlib.Core.Path.{◌≡◌, refl, sym, ap, ◌∙◌}
 use mathlib.Core.Bool.{Bool, true, false}
 use mathlib.Core.List.{List, [], ◌∷◌, ◌++◌, append_assoc, append-nil}
-use lib.ListN.{length, take, drop, length-append, length-take, length-drop}
-use lib.Seq.{take-length, take_all, take_at, take-append-add, length-take-le}
+use lib.ListN.{length, take, length-append, length-take, length-drop}
+use lib.Seq.{take_all, take_at, take-append-add}
 use lib.Dec.{leb}
 use borrow.Author.Tests.{leb-true, leb-false}
 use borrow.Rule.Slice.PartMut.{post_of, put_mid, same_len_mid}
@@ -14,37 +14,32 @@ use Rattle.bench_lines.specs.Lines.{LineHeld}
 use Rattle.bench_lines.proofs.Reading.{too_long}
 
 -- k of the bytes that come are copied behind the n that are held: all of them, or as many as have room
-module _ (line more copied part : List ℕ) (n k : ℕ) (in-line : n ≤ length line) (some : k ≤ length more) (room : n + k ≤ length line) where
-  pub held : copied ≡ take k more → part ≡ take (length copied) copied ++ drop (length copied) (take (length line - n) (drop n line)) →
-      take (length line - n) more ≡ take k more → LineHeld (take n line ++ more) (put_mid n (length line - n) line part) (n + k)
-  held is made all = record { fits = omega (arith, same); bytes = left ∙ sym right }
+module _ (line more : List ℕ) (n k : ℕ) (in-line : n ≤ length line) (some : k ≤ length more) (room : n + k ≤ length line) where
+  pub held : take (length line - n) more ≡ take k more → LineHeld (take n line ++ more) (put_mid n k line (take k more)) (n + k)
+  held all = record { fits = omega (arith, same); bytes = left ∙ sym right }
     where
-      tail : List ℕ
-      tail = drop k (take (length line - n) (drop n line))
-
-      counted : length copied ≡ k
-      counted = ap length is ∙ length-take-le k more some
-
-      part_is : part ≡ take k more ++ tail
-      part_is = made ∙ rw (take-length copied, counted, is)
-
-      same : length (put_mid n (length line - n) line part) ≡ length line
-      same = same_len_mid n (length line - n) line part (ap length part_is ∙ simp (length-append, length-take, length-drop) (omega arith))
+      same : length (put_mid n k line (take k more)) ≡ length line
+      same = same_len_mid n k line (take k more) (simp (length-take, length-drop) (omega arith))
 
       front : length (take n line ++ take k more) ≡ n + k
       front = simp (length-append, length-take) (omega arith)
 
-      left : take (n + k) (put_mid n (length line - n) line part) ≡ take n line ++ take k more
+      left : take (n + k) (put_mid n k line (take k more)) ≡ take n line ++ take k more
       left =
-          ap (λ (p : List ℕ). take (n + k) (take n line ++ (p ++ post_of n (length line - n) line))) part_is
-          ∙ ap (take (n + k)) (simp append_assoc)
-          ∙ take_at (take n line ++ take k more) (tail ++ post_of n (length line - n) line) (n + k) front
+          ap (take (n + k)) (sym (append_assoc (take n line) (take k more) (post_of n k line)))
+          ∙ take_at (take n line ++ take k more) (post_of n k line) (n + k) front
 
-      long : length (put_mid n (length line - n) line part) ≡ length (take n line) + (length line - n)
+      long : length (put_mid n k line (take k more)) ≡ length (take n line) + (length line - n)
       long = same ∙ simp length-take (omega arith)
 
-      right : take (length (put_mid n (length line - n) line part)) (take n line ++ more) ≡ take n line ++ take k more
+      right : take (length (put_mid n k line (take k more))) (take n line ++ more) ≡ take n line ++ take k more
       right = rw (long, take-append-add (take n line) more (length line - n), all)
+
+-- what was copied, and what is answered, by equations
+pub held_as : (line more part : List ℕ) (n m k r : ℕ) → n ≤ length line → k ≤ length more → n + k ≤ length line → m ≡ k → part ≡ take k more →
+    take (length line - n) more ≡ take k more → r ≡ n + k → LineHeld (take n line ++ more) (put_mid n m line part) r
+held_as line more part n m k r in-line some room wide is all answered =
+    rw (wide, is, answered) (held line more n k in-line some room all)
 
 take_again : (n : ℕ) (a b : List ℕ) → take n (take n a ++ b) ≡ take n (a ++ b)
 take_again zero a b = refl

@@ -6,7 +6,7 @@ use mathlib.Core.Bool.{Bool, true, false, cond}
 use mathlib.Core.List.{List, [], ◌∷◌, ◌++◌, append_assoc, append-nil}
 use lib.ListN.{length, take, drop}
 use lib.Dec.{eqb}
-use Rattle.bytes.specs.Bytes.{index_of, index_after}
+use Rattle.lines.specs.Bytes.{index_of, index_after}
 use Rattle.bench_lines.specs.Lines.{lines_from, rest_from}
 
 -- a text that comes in two parts

@@ -9,7 +9,7 @@ use lib.ListN.{length, take, drop}
 use lib.Seq.{drop-cons, take-length, drop-length}
 use lib.Dec.{eqb}
 use borrow.Author.Tests.{eqb-true, le-leb, lt-leb, lt-ltb, le-ltb}
-use Rattle.bytes.specs.Bytes.{slice, index_of}
+use Rattle.lines.specs.Bytes.{slice, index_of}
 use Rattle.lines.specs.Words.{with_byte, with_bytes, decimal_of, in_front, words_in, words_after, same_text}
 use Rattle.lines.specs.declared.Word.{Word}
 use Rattle.lines.specs.declared.Word.TheVariants.{Number, Nothing}

@@ -30,10 +30,10 @@ pub fn hold(line: &mut [u8], len: usize, more: &[u8]) -> usize
 {
     let room = line.len() - len;
     if room < more.len() {
-        bytes::copy(&more[..room], &mut line[len..]);
+        line[len..].copy_from_slice(&more[..room]);
         return line.len();
     }
-    bytes::copy(more, &mut line[len..]);
+    line[len..len + more.len()].copy_from_slice(more);
     len + more.len()
 }
 
@@ -57,7 +57,7 @@ pub fn read_command(line: &[u8]) -> Command
 fn read_form(text: &[u8]) -> Command
     ensures { result ≡ command.command_in (words_in text.now) }
 {
-    let end = bytes::scan::find(text, 0, text.len(), b' ');
+    let end = lines::find(text, 0, text.len(), b' ');
     if end == text.len() {
         return alone(text);
     }
@@ -68,7 +68,7 @@ fn read_form(text: &[u8]) -> Command
 fn with_numbers(name: &[u8], numbers: &[u8]) -> Command
     ensures { result ≡ command.command_in (name.now ∷ words_in numbers.now) }
 {
-    let end = bytes::scan::find(numbers, 0, numbers.len(), b' ');
+    let end = lines::find(numbers, 0, numbers.len(), b' ');
     let first = lines::decimal(&numbers[..end]);
     if end == numbers.len() {
         return with_one(name, first);

@@ -1,2 +1,3 @@
-pub mod Words
+pub mod Bytes
 pub mod Meaning
+pub mod Words

@@ -9,7 +9,7 @@ use lib.ListN.{length, get_or, take, drop, set, drop_of_length-le, length-drop}
 use lib.Seq.{drop-cons, drop-drop, take_all, take-length}
 use lib.Dec.{ltb, eqb}
 use borrow.Author.Tests.{ltb-true, le-leb, lt-leb, lt-ltb, le-ltb, eqb-true, eq-eqb, ne_eqb}
-use Rattle.bytes.specs.Bytes.{slice, index_of, index_after}
+use Rattle.lines.specs.Bytes.{slice, index_of, index_after}
 use Rattle.lines.specs.Words.{number, with_digit, with_byte, with_bytes, decimal_of, in_front, words_in, words_after}
 use Rattle.lines.specs.Words.{same_text, general_text, reserved_text, kind_number, word_of_area, next_word}
 use Rattle.lines.specs.Words.{Filled, filled, invalid, put_number, put_word, put_all}

@@ -2,7 +2,8 @@
 // programs that replay the Rust's answers.
 #![tactic(auto)]
 
-ghost use Rattle.std.specs.Prelude.{◌≡◌, ◌≤◌, length, drop};
+ghost use Rattle.std.specs.Prelude.{◌≡◌, ◌≤◌, ◌+◌, length, drop};
+ghost use Rattle.lines.specs.Bytes as bytes;
 ghost use Rattle.lines.specs.Words as words;
 
 // What the words that follow a name are: numbers, or areas of two numbers and a kind each.
@@ -42,6 +43,21 @@ pub fn are_areas(r: Reading) -> bool
     r.valid && r.len % 3 == 0
 }
 
+// Where the first such byte stands from the place `from` on and below `to`; `to` where there is none.
+pub fn find(text: &[u8], from: usize, to: usize, byte: u8) -> usize
+    requires in_order { from ≤ to }
+    requires in_bounds { to ≤ length text.now }
+    ensures first { result ≡ from + bytes.index_of byte (bytes.slice from to text.now) }
+    ensures in_bounds { result ≤ to }
+{
+    for i in from..to {
+        if text[i] == byte {
+            return i;
+        }
+    }
+    to
+}
+
 // Reads the words that follow the name, which ends here.
 pub fn read_words(line: &[u8], name_end: usize, layout: Layout, numbers: &mut [u64]) -> Reading
     ensures numbers_after { words.filled result numbers.new ≡ words.read_after layout (drop name_end line.now) numbers.old }
@@ -52,7 +68,7 @@ pub fn read_words(line: &[u8], name_end: usize, layout: Layout, numbers: &mut [u
     while at < line.len() {
         // Past the space.
         let start = at + 1;
-        at = bytes::scan::find(line, start, line.len(), b' ');
+        at = find(line, start, line.len(), b' ');
         read = put(read, next_word(layout, read, &line[start..at]), numbers);
     }
     read
@@ -147,6 +163,7 @@ fn with_byte(read: Word, byte: u8) -> Word
     }
 }
 
+#[tactic(auto, using(crate::proofs::Words::below_digits, crate::proofs::Words::above_digits, crate::proofs::Words::too_large, crate::proofs::Words::one_more))]
 fn with_digit(n: u64, byte: u8) -> Word
     ensures { result ≡ words.with_digit n byte }
 {

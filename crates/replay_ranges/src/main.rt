@@ -18,14 +18,14 @@ fn main() {
 fn replay(text: &[u8]) {
     let mut at = 0;
     while at < text.len() {
-        let end = bytes::scan::find(text, at, text.len(), b'\n');
+        let end = lines::find(text, at, text.len(), b'\n');
         answer_line(&text[at..end]);
         at = end + 1;
     }
 }
 
 fn answer_line(line: &[u8]) {
-    let name_end = bytes::scan::find(line, 0, line.len(), b' ');
+    let name_end = lines::find(line, 0, line.len(), b' ');
     let mut numbers = [0; 4];
     let read = lines::read_words(line, name_end, Layout::Numbers, &mut numbers);
     answer(&line[..name_end], read, numbers);

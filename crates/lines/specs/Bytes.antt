@@ -1,0 +1,16 @@
+-- A part of a text, and where a byte stands in it. A text is a list of bytes.
+use Rattle.std.specs.Prelude.{ℕ, Bool, true, false, List, [], ◌∷◌, take, drop, eqb, suc}
+
+-- the bytes from the place `from` on and below `to`
+unfoldable pub slice : ℕ → ℕ → List ℕ → List ℕ
+slice from to t = drop from (take to t)
+
+-- 0 where the byte is there, and else one more than its place among the others
+unfoldable pub index_after : Bool → ℕ → ℕ
+index_after true k = 0
+index_after false k = suc k
+
+-- the place of the first byte that is b, and the length where there is none
+unfoldable pub index_of : ℕ → List ℕ → ℕ
+index_of b [] = 0
+index_of b (x ∷ xs) = index_after (eqb x b) (index_of b xs)
