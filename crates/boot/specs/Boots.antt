@@ -1,6 +1,6 @@
 -- Boot in the shape of its code. The words in quotes are document 01's.
 use Rattle.std.specs.Prelude.{ℕ, ◌≡◌, List, ◌++◌, ltb, eqb}
-use Rattle.memory_structs.specs.Choice.{if◌then◌else◌}
+use Rattle.std.specs.Prelude.{if◌then◌else◌}
 use Rattle.memory_structs.specs.declared.range.FrameRange.{FrameRange}
 use Rattle.model.specs.Lists.{disjoint}
 use Rattle.model.specs.Boot as model

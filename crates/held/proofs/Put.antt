@@ -9,7 +9,7 @@ use lib.ListN.{length, get_or, drop, set, length-append, length-drop}
 use lib.Seq.{take_at, drop_at, drop-drop, set_at, get_or_at, sets-eq}
 use lib.Dec.{leb, eqb}
 use borrow.Author.Tests.{ne_eqb}
-use Rattle.memory_structs.specs.Choice.{if◌then◌else◌}
+use Rattle.std.specs.Prelude.{if◌then◌else◌}
 use Rattle.memory_structs.specs.Range.{range}
 use Rattle.memory_structs.specs.declared.range.FrameRange.{FrameRange}
 use Rattle.model.specs.Queries.{pairs, written}

@@ -7,7 +7,7 @@ use mathlib.Core.List.{List}
 use lib.ListN.{get_or, set}
 use lib.Dec.{ltb, eqb}
 use borrow.Author.Tests.{ltb-true, ltb-false, lt-ltb, le-ltb, eqb-true, eqb-false, eq-eqb, ne_eqb, le-leb, lt-leb}
-use Rattle.memory_structs.specs.Choice.{if◌then◌else◌}
+use Rattle.std.specs.Prelude.{if◌then◌else◌}
 use Rattle.memory_structs.specs.Range.{top}
 use Rattle.held.specs.Runs.{next_start, touches, put_count, put_words}
 

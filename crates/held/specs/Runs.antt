@@ -1,6 +1,6 @@
 -- The held list's runs in the shape of their code. The words in quotes are document 01's.
 use Rattle.std.specs.Prelude.{ℕ, ◌+◌, ◌-◌, ◌*◌, Bool, true, false, List, [], get_or, set, leb, ltb, eqb}
-use Rattle.memory_structs.specs.Choice.{if◌then◌else◌}
+use Rattle.std.specs.Prelude.{if◌then◌else◌}
 use Rattle.memory_structs.specs.Range.{top}
 use Rattle.model.specs.Lists.{Lists, Slot}
 

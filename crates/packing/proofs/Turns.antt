@@ -11,7 +11,7 @@ use lib.Seq.{take_all, take-suc, take-suc-set, take_at, drop_at}
 use borrow.Rule.Slice.PartMut.{put_mid}
 use lib.Dec.{leb, ltb}
 use borrow.Author.Tests.{ltb-true, ltb-false, le-leb, lt-leb}
-use Rattle.memory_structs.specs.Choice.{if◌then◌else◌}
+use Rattle.std.specs.Prelude.{if◌then◌else◌}
 use Rattle.memory_structs.specs.Range.{range}
 use Rattle.memory_structs.specs.declared.range.FrameRange.{FrameRange}
 use Rattle.model.specs.Lists.{Slot, unused, used, range_at}

@@ -1,7 +1,7 @@
 -- What a caller in C sees of an answer: the number is returned, and the words of `out` are 1 for yes, 0 for no and for 2, then the
 -- value; a no and a 2 show "[1,0], or 0 where a number is returned" (document 01).
 use Rattle.std.specs.Prelude.{ℕ, ◌≡◌, List, [], ◌∷◌, ◌++◌}
-use Rattle.memory_structs.specs.Choice.{if◌then◌else◌}
+use Rattle.std.specs.Prelude.{if◌then◌else◌}
 use Rattle.memory_structs.specs.Answers.{Shown}
 use Rattle.memory_structs.specs.declared.range.FrameRange.{FrameRange}
 use Rattle.memory_structs.specs.declared.frames.SplitFrames.{SplitFrames}

@@ -7,7 +7,7 @@ use mathlib.Core.List.{List, [], ◌∷◌}
 use lib.ListN.{length}
 use lib.Dec.{ltb}
 use borrow.Author.Tests.{lt-ltb, le-ltb}
-use Rattle.memory_structs.specs.Choice.{if◌then◌else◌}
+use Rattle.std.specs.Prelude.{if◌then◌else◌}
 use Rattle.memory_structs.proofs.Bools.{if_cases}
 use Rattle.model.specs.Lists.{Slot, unused, used, entries, range_at, remove, remove_one}
 use Rattle.model.specs.Requests.{entries_after}

@@ -1,6 +1,6 @@
 -- A grant from chosen chunks. The words in quotes are document 01's.
 use Rattle.std.specs.Prelude.{ℕ, ◌+◌, ◌-◌, ◌≤◌, ◌<◌, ◌≡◌, Bool, false, not, List, ◌++◌, length, take, drop, ltb}
-use Rattle.memory_structs.specs.Choice.{if◌then◌else◌}
+use Rattle.std.specs.Prelude.{if◌then◌else◌}
 use Rattle.memory_structs.specs.Range.{range}
 use Rattle.model.specs.Lists.{Slot, range_at, bound}
 use Rattle.model.specs.Requests.{grant_from, entries_after}

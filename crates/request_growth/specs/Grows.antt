@@ -1,6 +1,6 @@
 -- The numbers that refuse growth. The words in quotes are document 01's.
 use Rattle.std.specs.Prelude.{ℕ}
-use Rattle.memory_structs.specs.Choice.{if◌then◌else◌}
+use Rattle.std.specs.Prelude.{if◌then◌else◌}
 use Rattle.memory_structs.specs.Range.{meets}
 use Rattle.memory_structs.specs.declared.range.FrameRange.{FrameRange}
 use Rattle.model.specs.Lists.{Lists, entries, any_of}

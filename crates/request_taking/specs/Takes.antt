@@ -1,6 +1,6 @@
 -- A grant from one of the four lists. The words in quotes are document 01's.
 use Rattle.std.specs.Prelude.{ℕ, ◌≡◌, List, ltb}
-use Rattle.memory_structs.specs.Choice.{if◌then◌else◌}
+use Rattle.std.specs.Prelude.{if◌then◌else◌}
 use Rattle.memory_structs.specs.Range.{range}
 use Rattle.memory_structs.specs.declared.range.FrameRange.{FrameRange}
 use Rattle.model.specs.Lists.{Lists, bound}

@@ -6,7 +6,7 @@ use mathlib.Core.Bool.{Bool, true, false}
 use mathlib.Core.List.{List}
 use lib.Dec.{ltb, eqb}
 use borrow.Author.Tests.{eq-eqb, ne_eqb, eqb-false, ltb-false, lt-ltb, le-ltb, le-leb, lt-leb}
-use Rattle.memory_structs.specs.Choice.{if◌then◌else◌}
+use Rattle.std.specs.Prelude.{if◌then◌else◌}
 use Rattle.memory_structs.specs.Range.{range, top, address_limit, frame_size}
 use Rattle.model.specs.Lists.{Lists}
 use Rattle.model.specs.Requests.{Result, find, refused, refused_missing, frames_of, in_reserved, by_address, by_address_bytes, only_general, by_address_general}

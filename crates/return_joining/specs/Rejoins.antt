@@ -1,6 +1,6 @@
 -- A return to one list. The words in quotes are document 01's.
 use Rattle.std.specs.Prelude.{ℕ, ◌≡◌, Bool, not, List}
-use Rattle.memory_structs.specs.Choice.{if◌then◌else◌}
+use Rattle.std.specs.Prelude.{if◌then◌else◌}
 use Rattle.memory_structs.specs.declared.range.FrameRange.{FrameRange}
 use Rattle.model.specs.Lists.{Slot}
 use Rattle.model.specs.Returns.{given, no_place}

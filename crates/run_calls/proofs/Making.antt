@@ -7,7 +7,7 @@ use mathlib.Core.List.{List}
 use lib.ListN.{length, take, drop}
 use lib.Dec.{ltb}
 use borrow.Author.Tests.{leb-true, lt-ltb, le-ltb, ltb-false}
-use Rattle.memory_structs.specs.Choice.{if◌then◌else◌}
+use Rattle.std.specs.Prelude.{if◌then◌else◌}
 use Rattle.memory_structs.specs.Range.{above_top}
 use Rattle.memory_structs.proofs.Bools.{if_cases}
 use Rattle.model.specs.Lists.{Lists}

@@ -1,6 +1,6 @@
 -- Calls as words, three to a call: what the call is, and two numbers. The words in quotes are document 01's.
 use Rattle.std.specs.Prelude.{ℕ, ◌+◌, ◌*◌, ◌≡◌, Bool, true, List, take, drop, leb, eqb}
-use Rattle.memory_structs.specs.Choice.{if◌then◌else◌}
+use Rattle.std.specs.Prelude.{if◌then◌else◌}
 use Rattle.memory_structs.specs.Range.{range}
 use Rattle.model.specs.Calls.{Call, boot_call, boot_bytes_call, sort_call, return_call, kind_call, total_call, held_call}
 use Rattle.areas.specs.Areas.{kind_of_word, areas_in, byte_areas_in}

@@ -1,6 +1,6 @@
 -- One call, made: its answer, the record, every word, and the held list's buffer. The words in quotes are document 01's.
 use Rattle.std.specs.Prelude.{ℕ, ◌≡◌, List, length}
-use Rattle.memory_structs.specs.Choice.{if◌then◌else◌}
+use Rattle.std.specs.Prelude.{if◌then◌else◌}
 use Rattle.model.specs.Lists.{Lists}
 use Rattle.model.specs.Calls.{Call, held_call, answer, short_buffer, Gives, BufferAfter}
 use Rattle.model.specs.declared.Called.{Called}

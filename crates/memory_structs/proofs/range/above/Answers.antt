@@ -1,5 +1,4 @@
 -- `above`: the part where there is one, else [1,0].
-use borrow.Author.Rules.{rules}
 use borrow.Author.Tests.{lt-ltb, le-ltb}
 use Rattle.memory_structs.specs.Range.{frames_above}
 use Rattle.memory_structs.proofs.range.above.Goals as goal

@@ -1,5 +1,4 @@
 -- `any_above_top`: the second range is looked at only where the first is not above the top.
-use borrow.Author.Rules.{rules}
 use mathlib.Core.Path.{sym, ◌∙◌}
 use Rattle.memory_structs.proofs.range.any_above_top.Goals as goal
 

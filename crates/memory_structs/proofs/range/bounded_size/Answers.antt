@@ -1,6 +1,5 @@
 -- `bounded_size`: 0 of an empty range; of any other the sum fits, since its end is at or below the top.
 use native.Mathlib.Omega.{arith}
-use borrow.Author.Rules.{rules}
 use mathlib.Core.Path.{sym, ◌∙◌}
 use borrow.Author.Tests.{ltb-true, ltb-false}
 use Rattle.memory_structs.proofs.range.bounded_size.Goals as goal

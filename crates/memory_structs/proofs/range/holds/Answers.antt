@@ -1,5 +1,4 @@
 -- `holds` tests in turn what the definition joins by `&&`.
-use borrow.Author.Rules.{rules}
 use mathlib.Core.Path.{sym, ◌∙◌}
 use borrow.Author.Tests.{lt-leb, le-leb}
 use Rattle.memory_structs.proofs.range.holds.Goals as goal

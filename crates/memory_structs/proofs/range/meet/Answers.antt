@@ -1,5 +1,4 @@
 -- `meet`: the higher start lies at or below the lower end.
-use borrow.Author.Rules.{rules}
 use Rattle.memory_structs.proofs.range.meet.Goals as goal
 
 pub returns : goal.returns

@@ -1,6 +1,5 @@
 -- `address_at_offset`: 2, or where the range has so many bytes, its start and the offset.
 use native.Mathlib.Omega.{arith}
-use borrow.Author.Rules.{rules}
 use mathlib.Core.Path.{◌≡◌, sym, ◌∙◌}
 use mathlib.Core.Bool.{false}
 use Rattle.memory_structs.specs.Range.{above_top}

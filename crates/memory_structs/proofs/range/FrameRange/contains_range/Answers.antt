@@ -1,5 +1,4 @@
 -- `contains_range`: 2, or what `holds` finds.
-use borrow.Author.Rules.{rules}
 use mathlib.Core.Path.{◌≡◌, sym, ◌∙◌}
 use mathlib.Core.Bool.{false, ◌||◌}
 use Rattle.memory_structs.specs.Range.{above_top}

@@ -1,5 +1,4 @@
 -- `from_phys_addr`: 2, or the frames touched.
-use borrow.Author.Rules.{rules}
 use mathlib.Core.Path.{sym, ap, ◌∙◌}
 use Rattle.memory_structs.specs.Answers.{yes}
 use Rattle.memory_structs.proofs.RangeCases.{phys_refused, phys_shown}

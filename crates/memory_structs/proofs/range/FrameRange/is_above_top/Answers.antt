@@ -1,5 +1,4 @@
 -- `is_above_top` compares the higher end.
-use borrow.Author.Rules.{rules}
 use mathlib.Core.Path.{ap}
 use Prim.Native.Nat.{ℕ}
 use lib.Dec.{ltb}

@@ -1,6 +1,5 @@
 -- `merge`: 2, no for an empty side, or one range where the other lies just below or just above.
 use native.Mathlib.Omega.{arith}
-use borrow.Author.Rules.{rules}
 use mathlib.Core.Path.{◌≡◌, sym, ap, ◌∙◌}
 use mathlib.Core.Bool.{false, ◌||◌}
 use Rattle.memory_structs.specs.Range.{is_empty, above_top}

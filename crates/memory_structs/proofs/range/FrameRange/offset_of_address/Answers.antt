@@ -1,6 +1,5 @@
 -- `offset_of_address`: 2, or where the range has the address's frame, the bytes from its start.
 use native.Mathlib.Omega.{arith}
-use borrow.Author.Rules.{rules}
 use mathlib.Core.Path.{◌≡◌, sym, ◌∙◌}
 use mathlib.Core.Bool.{false}
 use Rattle.memory_structs.specs.Range.{above_top}

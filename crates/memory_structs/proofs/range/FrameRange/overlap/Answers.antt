@@ -1,6 +1,5 @@
 -- `overlap`: 2, or the frames from the higher start to the lower end.
 use native.Mathlib.Omega.{arith}
-use borrow.Author.Rules.{rules}
 use mathlib.Core.Path.{◌≡◌, sym, ap, ◌∙◌}
 use mathlib.Core.Bool.{false, ◌||◌}
 use Rattle.memory_structs.specs.Range.{above_top}

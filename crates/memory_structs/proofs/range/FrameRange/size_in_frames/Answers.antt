@@ -1,5 +1,4 @@
 -- `size_in_frames`: 2, or the size of a range whose end is at or below the top.
-use borrow.Author.Rules.{rules}
 use mathlib.Core.Path.{◌≡◌, sym, ap, ◌∙◌}
 use mathlib.Core.Bool.{false}
 use Rattle.memory_structs.specs.Range.{above_top}

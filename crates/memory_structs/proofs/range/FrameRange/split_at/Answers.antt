@@ -1,6 +1,5 @@
 -- `split_at`: 2, no for an empty range or a frame outside, or the frames below the frame and those from it on.
 use native.Mathlib.Omega.{arith}
-use borrow.Author.Rules.{rules}
 use mathlib.Core.Path.{◌≡◌, sym, ◌∙◌}
 use mathlib.Core.Bool.{false}
 use Rattle.memory_structs.specs.Range.{is_empty, above_top}

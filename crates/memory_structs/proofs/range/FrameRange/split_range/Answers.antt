@@ -1,5 +1,4 @@
 -- `split_range`: 2, no, or the extract with the frames below and above it.
-use borrow.Author.Rules.{rules}
 use mathlib.Core.Path.{◌≡◌, sym, ◌∙◌}
 use mathlib.Core.Bool.{false, ◌||◌}
 use Rattle.memory_structs.specs.Range.{above_top}

@@ -1,5 +1,4 @@
 -- `to_extended`: 2, or the frame alone, or the range stretched to it.
-use borrow.Author.Rules.{rules}
 use mathlib.Core.Path.{◌≡◌, sym, ap, ◌∙◌}
 use mathlib.Core.Bool.{false}
 use Rattle.memory_structs.specs.Range.{above_top}

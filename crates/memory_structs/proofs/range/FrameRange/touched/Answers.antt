@@ -1,5 +1,4 @@
 -- `touched`: from the first byte's frame to the last byte's.
-use borrow.Author.Rules.{rules}
 use mathlib.Core.Path.{◌∙◌}
 use Rattle.memory_structs.proofs.RangeCases.{touched_none, touched_some}
 use Rattle.memory_structs.proofs.range.FrameRange.touched.Goals as goal
