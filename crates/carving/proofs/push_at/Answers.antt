@@ -1,7 +1,6 @@
 -- `push_at`: the range is stored after the others, or only counted.
 use Rattle.carving.specs.Ranges.{range_list_of}
 use Rattle.carving.proofs.Listed.{pushed, counted}
-use borrow.Author.Rules.{rules}
 use Rattle.carving.proofs.push_at.Goals as goal
 
 pub returns-then-len-ge32 : goal.returns-then-len-ge32

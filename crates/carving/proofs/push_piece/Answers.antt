@@ -1,6 +1,5 @@
 -- `push_piece`: a piece without frames is left out.
 use Rattle.carving.proofs.Listed.{no_piece, one_piece}
-use borrow.Author.Rules.{rules}
 use Rattle.carving.proofs.push_piece.Goals as goal
 
 pub returns-then-end-start : goal.returns-then-end-start

@@ -1,0 +1,11 @@
+-- `count_of`: each arm is its clause.
+use Rattle.bench_areas.specs.Areas.{count_of}
+use Rattle.bench_areas.proofs.count_of.Goals as goal
+
+pub returns-in-General : goal.returns-in-General
+unfolding count_of
+returns-in-General c = rw c.in-General.is
+
+pub returns-in-Reserved : goal.returns-in-Reserved
+unfolding count_of
+returns-in-Reserved c = rw c.in-Reserved.is
