@@ -229,9 +229,19 @@ def as_record(body, names):
     """A tuple that answers several clauses gets their names."""
     if not names or len(names) < 2:
         return body
-    lead = re.match(r"((?:\s*let .*? in)*\s*)\((.*)\)\s*$", body, re.S)
-    if not lead:
+    end = body.rstrip()
+    if not end.endswith(")"):
         return body
+    depth, at = 0, len(end)
+    for k in range(len(end) - 1, -1, -1):
+        depth += (end[k] == ")") - (end[k] == "(")
+        if not depth:
+            at = k
+            break
+    before = end[:at].rstrip()
+    if before and not re.search(r"\bin$", before):
+        return body
+    lead = ("", before, end[at + 1:-1])
     parts, depth, cur = [], 0, ""
     for ch in lead[2]:
         depth += (ch in "([{") - (ch in ")]}")

@@ -47,8 +47,10 @@ bounds-t-i c =
 pub replace_at-requires : goal.replace_at-requires
 replace_at-requires c =
     let above : let a = c.args in At c.in-At.i ≡ first_where (λ (r : FrameRange). eqb r.start (a.end + 1)) (table_slots a.len a.t.now) = sym c.in-At.is ∙ c.starting_at.ensures in
-    let above_in : let a = c.args in (c.in-At.i < a.len) × (a.len ≤ 512) × (length a.t.now ≡ 1024) = (found_pair _ _ _ _ above, c.requires.table.fits, c.requires.table.size) in
-    (c.requires.table, above_in.0)
+    let above_in : let a = c.args in (c.in-At.i < a.len) × (a.len ≤ 512) × (length a.t.now ≡ 1024) = (found_pair _ _ _ _ above, c.requires.table.fits, c.requires.table.size) in record {
+      table = c.requires.table;
+      i_lt_len = above_in.0;
+    }
 
 pub returns-in-At : goal.returns-in-At
 returns-in-At c =
@@ -87,8 +89,10 @@ bounds-t-i-in-At-ending_below c =
 pub replace_at-requires-in-At-ending_below : goal.replace_at-requires-in-At-ending_below
 replace_at-requires-in-At-ending_below c =
     let under : let a = c.args in At c.in-At-ending_below.i ≡ first_where (λ (r : FrameRange). eqb (r.end + 1) a.start) (table_slots a.len a.t.now) = sym c.in-At-ending_below.is ∙ c.ending_below.ensures in
-    let under-in : let a = c.args in (c.in-At-ending_below.i < a.len) × (a.len ≤ 512) × (length a.t.now ≡ 1024) = (found_pair _ _ _ _ under, c.requires.table.fits, c.requires.table.size) in
-    (c.requires.table, under-in.0)
+    let under-in : let a = c.args in (c.in-At-ending_below.i < a.len) × (a.len ≤ 512) × (length a.t.now ≡ 1024) = (found_pair _ _ _ _ under, c.requires.table.fits, c.requires.table.size) in record {
+      table = c.requires.table;
+      i_lt_len = under-in.0;
+    }
 
 pub returns-in-At-ending_below : goal.returns-in-At-ending_below
 returns-in-At-ending_below c =

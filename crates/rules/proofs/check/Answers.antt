@@ -4,7 +4,7 @@ use mathlib.Core.Logic.{⊎_elim}
 use Rattle.rules.proofs.Numbers.{short_words, rules_kept, list_broken, lists_disagree}
 use borrow.Author.Rules.{rules}
 use Rattle.rules.proofs.check.Goals as goal
-use Rattle.rules.proofs.check.Goals.{else-each_keeps, then-each_keeps}
+use Rattle.rules.proofs.check.Goals.{else-each_keeps-via-then-each_keeps+else-lists_agree, else-each_keeps-via-else-each_keeps}
 
 pub returns-then-words-lt4096 : goal.returns-then-words-lt4096
 returns-then-words-lt4096 c = short_words c.args.a c.args.words.now c.if-words-lt4096.true
@@ -20,5 +20,5 @@ returns-then-lists_agree c = rules_kept c.args.a c.args.words.now c.if-words-lt4
 
 pub returns : goal.returns
 returns c = let kept = sym c.each_keeps.ensures in
-    elim c.if-each_keeps.branch [ then-each_keeps w ↦ lists_disagree c.args.a c.args.words.now c.if-words-lt4096.false (kept ∙ w.if-each_keeps.true) (sym w.1.ensures ∙ w.2.left)
-      | else-each_keeps w ↦ list_broken c.args.a c.args.words.now c.if-words-lt4096.false (kept ∙ w.left) ]
+    elim c.else-each_keeps.branch [ else-each_keeps-via-then-each_keeps+else-lists_agree w ↦ lists_disagree c.args.a c.args.words.now c.if-words-lt4096.false (kept ∙ w.if-each_keeps.true) (sym w.lists_agree.ensures ∙ w.if-lists_agree.false)
+      | else-each_keeps-via-else-each_keeps w ↦ list_broken c.args.a c.args.words.now c.if-words-lt4096.false (kept ∙ w.if-each_keeps.false) ]

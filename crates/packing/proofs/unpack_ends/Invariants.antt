@@ -1,0 +1,14 @@
+-- `unpack_ends`: at each turn the first i are written.
+use mathlib.Core.Path.{◌≡◌, refl}
+use Prim.Native.Nat.{◌-◌, ◌≤◌}
+use lib.ListN.{length, take, length-set}
+use Rattle.packing.specs.Packed.{ends_of}
+use Rattle.packing.proofs.Turns.{fill_turn, fill_end, end_is, ends_length}
+use native.Mathlib.Omega.{arith}
+use Rattle.packing.proofs.unpack_ends.Given as goal
+
+abbrev pub invariant-loop-i : goal.invariant-loop-i
+invariant-loop-i l = (l.i ≤ 32) × (length l.ends ≡ 32) × (take l.i l.ends ≡ take l.i (ends_of l.t))
+
+abbrev pub decreases-loop-i : goal.decreases-loop-i
+decreases-loop-i l = 32 - l.i

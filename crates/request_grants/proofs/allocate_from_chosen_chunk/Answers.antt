@@ -1,0 +1,47 @@
+-- `allocate_from_chosen_chunk`: the grant of the list's form.
+use mathlib.Core.Path.{◌≡◌, sym, subst, ◌∙◌}
+use mathlib.Core.Bool.{Bool}
+use mathlib.Core.List.{List}
+use Prim.Native.Nat.{◌≤◌}
+use Rattle.model.specs.Lists.{Slot, bound}
+use Rattle.model.specs.Rules.{tidy}
+use Rattle.entries.specs.Part.{slots_in}
+use Rattle.entries.proofs.Part.{as_table, as_pairs, at_sorted, at_early, sorted_after, early_after}
+use borrow.Author.Rules.{rules}
+use Rattle.request_grants.specs.Grants.{Chooses, grant_of, entries_left}
+use Rattle.request_grants.proofs.allocate_from_chosen_chunk.Goals as goal
+
+-- what was asked for, in the form that the list has
+abbrev Asked : tie.Start → Bool → List Slot → Type 0
+Asked s b x = Chooses b x s.args.chosen s.args.asked.start s.args.asked.end × (entries_left b s.args.chosen s.args.asked.start s.args.asked.end x ≤ bound b)
+
+pub allocate_from_table-requires : goal.allocate_from_table-requires
+unfolding bound
+allocate_from_table-requires c =
+    let asked : (b : Bool) (x : List Slot) → ◌≡◌ {A = Bool × List Slot} (c.args.sorted, slots_in c.args.sorted c.args.len c.args.t.now) (b, x) → Asked c b x = λ b. λ x. λ e. subst (λ (p : Bool × List Slot). Asked c p.0 p.1) e c.requires.1.1 in
+    let a = c.args in
+    let e = c.if-sorted.true in
+    let k = asked _ _ (at_sorted (λ b x. (b, x)) a.len a.t.now e) in record {
+      table = as_table c.requires.part e;
+      t_value = sym (at_sorted tidy a.len a.t.now e) ∙ c.requires.t_value;
+      chooses = k.0;
+      t_bound = k.1;
+    }
+
+pub returns-then-sorted : goal.returns-then-sorted
+returns-then-sorted c = let a = c.args in
+    sorted_after (λ b x. grant_of b a.chosen a.asked.start a.asked.end x) c.requires.part c.if-sorted.true c.allocate_from_table.ensures.counted c.allocate_from_table.ensures.written
+
+pub allocate_from_slots-requires : goal.allocate_from_slots-requires
+allocate_from_slots-requires c =
+    let asked : (b : Bool) (x : List Slot) → ◌≡◌ {A = Bool × List Slot} (c.args.sorted, slots_in c.args.sorted c.args.len c.args.t.now) (b, x) → Asked c b x = λ b. λ x. λ e. subst (λ (p : Bool × List Slot). Asked c p.0 p.1) e c.requires.1.1 in
+    let a = c.args in
+    let e = c.if-sorted.false in record {
+      pairs = as_pairs c.requires.part e;
+      t_value = sym (at_early tidy a.len a.t.now e) ∙ c.requires.t_value;
+      chooses = (asked _ _ (at_early (λ b x. (b, x)) a.len a.t.now e)).0;
+    }
+
+pub returns : goal.returns
+returns c = let a = c.args in
+    early_after (λ b x. grant_of b a.chosen a.asked.start a.asked.end x) c.requires.part c.if-sorted.false c.allocate_from_slots.ensures
