@@ -8,17 +8,19 @@ use Rattle.model.specs.Rules.{tidy}
 use Rattle.entries.specs.Part.{slots_in}
 use Rattle.entries.proofs.Part.{as_table, as_pairs, at_sorted, at_early, sorted_after, early_after}
 use borrow.Author.Rules.{rules}
+use Rattle.memory_structs.specs.declared.range.FrameRange.{FrameRange}
+use Rattle.request_search.specs.declared.Chosen.{Chosen}
 use Rattle.request_grants.specs.Grants.{Chooses, grant_of, entries_left}
 use Rattle.request_grants.proofs.allocate_from_chosen_chunk.Goals as goal
 
 -- what was asked for, in the form that the list has
-abbrev Asked : tie.Start → Bool → List Slot → Type 0
-Asked s b x = Chooses b x s.args.chosen s.args.asked.start s.args.asked.end × (entries_left b s.args.chosen s.args.asked.start s.args.asked.end x ≤ bound b)
+abbrev Asked : Chosen → FrameRange → Bool → List Slot → Type 0
+Asked k r b x = Chooses b x k r.start r.end × (entries_left b k r.start r.end x ≤ bound b)
 
 pub allocate_from_table-requires : goal.allocate_from_table-requires
 unfolding bound
 allocate_from_table-requires c =
-    let asked : (b : Bool) (x : List Slot) → ◌≡◌ {A = Bool × List Slot} (c.args.sorted, slots_in c.args.sorted c.args.len c.args.t.now) (b, x) → Asked c b x = λ b. λ x. λ e. subst (λ (p : Bool × List Slot). Asked c p.0 p.1) e c.requires.1.1 in
+    let asked : (b : Bool) (x : List Slot) → ◌≡◌ {A = Bool × List Slot} (c.args.sorted, slots_in c.args.sorted c.args.len c.args.t.now) (b, x) → Asked c.args.chosen c.args.asked b x = λ b. λ x. λ e. subst (λ (p : Bool × List Slot). Asked c.args.chosen c.args.asked p.0 p.1) e (c.requires.chooses, c.requires.t_bound) in
     let a = c.args in
     let e = c.if-sorted.true in
     let k = asked _ _ (at_sorted (λ b x. (b, x)) a.len a.t.now e) in record {
@@ -34,7 +36,7 @@ returns-then-sorted c = let a = c.args in
 
 pub allocate_from_slots-requires : goal.allocate_from_slots-requires
 allocate_from_slots-requires c =
-    let asked : (b : Bool) (x : List Slot) → ◌≡◌ {A = Bool × List Slot} (c.args.sorted, slots_in c.args.sorted c.args.len c.args.t.now) (b, x) → Asked c b x = λ b. λ x. λ e. subst (λ (p : Bool × List Slot). Asked c p.0 p.1) e c.requires.1.1 in
+    let asked : (b : Bool) (x : List Slot) → ◌≡◌ {A = Bool × List Slot} (c.args.sorted, slots_in c.args.sorted c.args.len c.args.t.now) (b, x) → Asked c.args.chosen c.args.asked b x = λ b. λ x. λ e. subst (λ (p : Bool × List Slot). Asked c.args.chosen c.args.asked p.0 p.1) e (c.requires.chooses, c.requires.t_bound) in
     let a = c.args in
     let e = c.if-sorted.false in record {
       pairs = as_pairs c.requires.part e;

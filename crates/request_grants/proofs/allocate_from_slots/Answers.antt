@@ -8,7 +8,7 @@ use Rattle.request_grants.proofs.allocate_from_slots.Goals as goal
 pub empty_slot-requires : goal.empty_slot-requires
 empty_slot-requires c = record {
       pairs = c.requires.pairs;
-      i_bound = omega (arith, pairs_length 32 c.args.t.now, c.requires.chooses.some, c.requires.chooses.in_List);
+      i_bound = omega (arith, pairs_length 32 c.args.t.now, c.requires.chooses.some, c.requires.chooses.in_list);
     }
 
 pub put_before-requires : goal.put_before-requires

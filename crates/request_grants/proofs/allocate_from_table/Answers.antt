@@ -15,20 +15,20 @@ use Rattle.request_grants.proofs.allocate_from_table.Goals as goal
 
 pub remove_at-requires : goal.remove_at-requires
 remove_at-requires c =
-    let in_table : c.args.chosen.first + c.args.chosen.many ≤ c.args.len = omega (arith, c.requires.chooses.in_List, table_length c.args.len c.args.t.now) in record {
+    let in_table : c.args.chosen.first + c.args.chosen.many ≤ c.args.len = omega (arith, c.requires.chooses.in_list, table_length c.args.len c.args.t.now) in record {
       table = c.requires.table;
       k_bound = in_table;
     }
 
 pub overflow_sub-result : goal.overflow_sub-result
 overflow_sub-result c =
-    let in_table : c.args.chosen.first + c.args.chosen.many ≤ c.args.len = omega (arith, c.requires.chooses.in_List, table_length c.args.len c.args.t.now) in
+    let in_table : c.args.chosen.first + c.args.chosen.many ≤ c.args.len = omega (arith, c.requires.chooses.in_list, table_length c.args.len c.args.t.now) in
     omega (arith, in_table)
 
 pub returns-then-chosen-asked-2 : goal.returns-then-chosen-asked-2
 returns-then-chosen-asked-2 c =
     let spaced : Spaced 0 ((table_slots c.args.len c.args.t.now)) = tidy_spaced ((table_slots c.args.len c.args.t.now)) c.requires.t_value in
-    let in_table : c.args.chosen.first + c.args.chosen.many ≤ c.args.len = omega (arith, c.requires.chooses.in_List, table_length c.args.len c.args.t.now) in
+    let in_table : c.args.chosen.first + c.args.chosen.many ≤ c.args.len = omega (arith, c.requires.chooses.in_list, table_length c.args.len c.args.t.now) in
     let a = c.args in
     left_instead
     (sym (grant_none ((table_slots c.args.len c.args.t.now)) a.chosen a.asked.start a.asked.end spaced c.requires.chooses (omega (arith, c.if-chosen-asked.true)) (omega (arith, c.if-chosen-asked-2.true))))
@@ -36,7 +36,7 @@ returns-then-chosen-asked-2 c =
 
 pub leave_one-requires : goal.leave_one-requires
 leave_one-requires c =
-    let in_table : c.args.chosen.first + c.args.chosen.many ≤ c.args.len = omega (arith, c.requires.chooses.in_List, table_length c.args.len c.args.t.now) in record {
+    let in_table : c.args.chosen.first + c.args.chosen.many ≤ c.args.len = omega (arith, c.requires.chooses.in_list, table_length c.args.len c.args.t.now) in record {
       table = c.requires.table;
       many_nonzero = (c.requires.chooses.some, in_table);
     }
@@ -52,7 +52,7 @@ returns-then-chosen-asked c =
 
 pub leave_one-requires-then-chosen-asked-3 : goal.leave_one-requires-then-chosen-asked-3
 leave_one-requires-then-chosen-asked-3 c =
-    let in_table : c.args.chosen.first + c.args.chosen.many ≤ c.args.len = omega (arith, c.requires.chooses.in_List, table_length c.args.len c.args.t.now) in record {
+    let in_table : c.args.chosen.first + c.args.chosen.many ≤ c.args.len = omega (arith, c.requires.chooses.in_list, table_length c.args.len c.args.t.now) in record {
       table = c.requires.table;
       many_nonzero = (c.requires.chooses.some, in_table);
     }
