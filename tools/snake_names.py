@@ -106,7 +106,7 @@ def in_backticks(text, names):
 
 def rust(text, names):
     """A .rt file: hyphens only in backticks and in lists of lemmas, capitals wherever no string is."""
-    camel = {n for n in names if "-" not in n}
+    camel = {n for n in names if "-" not in n and re.search(r"[A-Z]", n)}
     out = []
     for line in text.split("\n"):
         if "//" in line and line.strip().startswith("//"):

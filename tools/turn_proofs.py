@@ -173,6 +173,20 @@ class Turner:
                     else:
                         out += ["1"] * k
                 continue
+            if p == "new" and self.fn.callee.get(out[-1]):
+                out.append("new")
+                i += 1
+                params = self.fn.d["params"].get(self.fn.callee[out[-2]], [])
+                k = 0
+                while i < len(parts) and parts[i] == "1":
+                    k += 1
+                    i += 1
+                if i < len(parts) and parts[i] == "0" and k < len(params):
+                    out.append(params[k])
+                    i += 1
+                else:
+                    out += ["1"] * k
+                continue
             q = p.replace("-", "_")
             if out[-1] == "args" or re.match(r"t\d+$", p):
                 q = self.fn.arg.get(norm(p), q)

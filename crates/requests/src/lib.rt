@@ -7,7 +7,7 @@ ghost use Rattle.entries.specs.Whole.{lists_in, Ruled, Does};
 ghost use Rattle.requests.specs.Asked.{call_of};
 
 mod by_address;
-mod by_count_holds;
+mod by_count;
 
 pub use by_address::{bytes_at, frames_at, general_frames_at};
 pub use by_count::{count_bytes, count_frames};
