@@ -17,6 +17,7 @@ TRIVIAL = {"search rules", "omega arith", "tt", "search rules depth 7", "refl"}
 
 
 def norm(s):
+    s = s.replace("«", "").replace("»", "")
     s = re.sub(r"^(overflow|nonzero)[-_]", "", s)
     s = re.sub(r"^slice[-_]bounds[-_]", "part-", s)
     s = s.replace("loop-init", "loop-holds").replace("loop-preserved", "loop-again").replace("loop-smaller", "loop-less")
@@ -204,7 +205,7 @@ class Turner:
             self.index_names = {}
             return self.fields(m[0])
 
-        text = re.sub(r"(?<![\w'.-])[A-Za-z_₀-₉'][\w'₀-₉-]*(?:\.[\w'₀-₉-]+)+", one, text)
+        text = re.sub(r"(?<![\w'.-])[A-Za-z_₀-₉'][\w'₀-₉-]*(?:\.[\w'₀-₉«»-]+)+", one, text)
         return text
 
     def written_out(self, text, var):
@@ -257,7 +258,7 @@ def as_record(body, names):
         return body
     lead = ("", before, end[at + 1:-1])
     parts, depth, cur = [], 0, ""
-    for ch in lead[2]:
+    for ch in lead[2].rstrip().rstrip(","):
         depth += (ch in "([{") - (ch in ")]}")
         if depth < 0:
             return body
@@ -284,7 +285,7 @@ def as_record(body, names):
     if len(parts) < len(names):
         return body
     if len(parts) > len(names):
-        parts = parts[: len(names) - 1] + ["(" + ",".join(parts[len(names) - 1:]).strip() + ")"]
+        parts = parts[: len(names) - 1] + ["(" + ",".join(parts[len(names) - 1:]).strip().rstrip(",") + ")"]
     rows = "\n".join(f"      {n} = {p.strip()};" for n, p in zip(names, parts))
     return (lead[1].rstrip() or "") + " record {\n" + rows + "\n    }"
 

@@ -1,0 +1,13 @@
+-- `init_from_bytes`: the areas in bytes.
+use Rattle.areas.specs.declared.AreaUnit.TheVariants.{Bytes}
+use Rattle.areas.specs.Areas.{read}
+use Rattle.boot.proofs.Numbers.{survey_ready}
+use Rattle.boot.proofs.Given.{byte_words_boot, surveyed_gives}
+use borrow.Author.Rules.{rules}
+use Rattle.boot.proofs.init_from_bytes.Goals as goal
+
+pub boot_surveyed-requires : goal.boot_surveyed-requires
+boot_surveyed-requires c = survey_ready _ _ c.survey_words.ensures
+
+pub returns : goal.returns
+returns c = surveyed_gives _ (read Bytes c.args.areas.now) (byte_words_boot c.args.areas.now) c.args.a c.args.words.now c.survey_words.result c.survey_words.ensures c.boot_surveyed.result c.boot_surveyed.ensures

@@ -1,0 +1,36 @@
+-- `perform`: refused by 3 or 11; or opened, done and closed.
+use mathlib.Core.Path.{◌≡◌, sym, subst, ◌∙◌}
+use mathlib.Core.Bool.{false}
+use Rattle.model.specs.Store.{load}
+use Rattle.model.specs.Calls.{Gives, answer, short_buffer}
+use Rattle.model.specs.declared.Called.{Called}
+use Rattle.rules.specs.Check.{checked}
+use Rattle.rules.proofs.Numbers.{gives_refused}
+use Rattle.packing.proofs.OpenAs.{call_may, call_closes, call_gives}
+use Rattle.calls.specs.Operations.{call_of}
+use Rattle.calls.proofs.Kept.{never_short, keeps_form}
+use borrow.Author.Rules.{rules}
+use Rattle.calls.proofs.perform.Goals as goal
+
+pub returns-then-opened-ne0 : goal.returns-then-opened-ne0
+returns-then-opened-ne0 c = let a = c.args in
+    subst (λ (x : Called). Gives (call_of a.operation) a.a a.words.now x a.words.now) (sym c.refused.ensures)
+    (gives_refused (call_of a.operation) a.a a.words.now (never_short a.operation) _ c.open-opened.ensures.number c.if-opened-ne0.true)
+
+pub operate-done-requires : goal.operate-done-requires
+operate-done-requires c =
+    let passed : let a = c.args in checked a.a a.words.now ≡ 0 = sym c.open-opened.ensures.number ∙ c.if-opened-ne0.false in
+    let a = c.args in
+    call_may (call_of a.operation) a.a a.words.now (never_short a.operation) (keeps_form a.operation _) passed c.open-opened.ensures
+
+pub close-requires : goal.close-requires
+close-requires c =
+    let passed : let a = c.args in checked a.a a.words.now ≡ 0 = sym c.open-opened.ensures.number ∙ c.if-opened-ne0.false in
+    let a = c.args in
+    call_closes (call_of a.operation) a.a a.words.now (never_short a.operation) (keeps_form a.operation _) passed c.open-opened.ensures c.operate-done.ensures
+
+pub returns : goal.returns
+returns c =
+    let passed : let a = c.args in checked a.a a.words.now ≡ 0 = sym c.open-opened.ensures.number ∙ c.if-opened-ne0.false in
+    let a = c.args in
+    call_gives (call_of a.operation) a.a a.words.now (never_short a.operation) (keeps_form a.operation _) passed c.open-opened.ensures c.operate-done.ensures _ c.close.ensures

@@ -1,0 +1,22 @@
+-- `held_list`: refused by its buffer, by 3 or 11, or answered.
+use native.Mathlib.Omega.{arith}
+use mathlib.Core.Path.{subst}
+use Rattle.model.specs.Lists.{Lists}
+use Rattle.queries.proofs.Asked.{held_short, held_refused, held_going, passed, may_ask, asked_lists, listed_of}
+use borrow.Author.Rules.{rules}
+use Rattle.queries.proofs.held_list.Goals as goal
+
+pub returns-then-buffer-lt2048 : goal.returns-then-buffer-lt2048
+returns-then-buffer-lt2048 c = held_short c.args.a c.args.words.now c.args.buffer.now (omega arith) c.without_frames.ensures
+
+pub returns-then-opened-ne0 : goal.returns-then-opened-ne0
+returns-then-opened-ne0 c = held_refused c.args.a c.args.words.now c.args.buffer.now (omega (arith, c.if-buffer-lt2048.false)) _ c.open-opened.ensures.number c.if-opened-ne0.true c.without_frames-then-opened-ne0.ensures
+
+pub list_held-requires : goal.list_held-requires
+list_held-requires c = record {
+      ruled = may_ask c.open-opened.ensures c.if-opened-ne0.false;
+      in_bounds = omega (arith, c.if-buffer-lt2048.false);
+    }
+
+pub returns : goal.returns
+returns c = held_going c.args.a c.args.words.now c.args.buffer.now (omega (arith, c.if-buffer-lt2048.false)) (passed c.open-opened.ensures c.if-opened-ne0.false) (listed_of (asked_lists c.open-opened.ensures c.if-opened-ne0.false) c.list_held.ensures)

@@ -1,0 +1,20 @@
+-- `write_from_pairs`: the walk over the slots in order.
+use native.Mathlib.Omega.{arith}
+use mathlib.Core.Path.{◌≡◌, ap, ◌∙◌}
+use mathlib.Core.Bool.{true}
+use Rattle.model.specs.Rules.{tidy}
+use Rattle.pair_sorting.proofs.Sorting.{ordered_few, ordered_slots}
+use Rattle.query_core.proofs.Forms.{two_same}
+use borrow.Author.Rules.{rules}
+use Rattle.query_core.proofs.write_from_pairs.Goals as goal
+
+pub write_runs-requires : goal.write_runs-requires
+write_runs-requires c = let r = c.args.regions.now in
+    let f = c.args.chunks.now in record {
+      regions_len_in_bounds = (omega (arith, ordered_few r c.sort_pairs-regions_len.ensures), omega (arith, ordered_few f c.sort_pairs-chunks_len.ensures), omega arith);
+      regions_value = ap (tidy true) (ordered_slots r c.sort_pairs-regions_len.ensures) ∙ c.requires.regions_value;
+      chunks_value = ap (tidy true) (ordered_slots f c.sort_pairs-chunks_len.ensures) ∙ c.requires.chunks_value;
+    }
+
+pub returns : goal.returns
+returns c = two_same (ordered_slots c.args.regions.now c.sort_pairs-regions_len.ensures) (ordered_slots c.args.chunks.now c.sort_pairs-chunks_len.ensures) c.write_runs.ensures
