@@ -1,0 +1,13 @@
+-- `put_split` writes the words of each case as they are shown.
+use mathlib.Core.Path.{refl}
+use borrow.Author.Rules.{rules}
+use Rattle.range_answers.proofs.put_split.Goals as goal
+
+pub returns-in-OutOfBounds : goal.returns-in-OutOfBounds
+returns-in-OutOfBounds c = rw c.in-OutOfBounds.is (record { number_is = refl; words_are = refl })
+
+pub returns-in-Nothing : goal.returns-in-Nothing
+returns-in-Nothing c = rw c.in-Nothing.is (record { number_is = refl; words_are = refl })
+
+pub returns-in-Split : goal.returns-in-Split
+returns-in-Split c = rw c.in-Split.is (record { number_is = refl; words_are = refl })
