@@ -1,0 +1,20 @@
+-- `record_now`: the record as it was, or closed.
+use mathlib.Core.Path.{◌≡◌, sym, ap, subst, ◌∙◌}
+use mathlib.Core.Bool.{◌&&◌}
+use Rattle.model.specs.declared.Called.{Called}
+use Rattle.entries.specs.declared.header.Answered.{Answered}
+use Rattle.packing.specs.Packed.{Closable, closed}
+use Rattle.run.proofs.Opened.{zero_is, other_is}
+use borrow.Author.Rules.{rules}
+use Rattle.run.proofs.record_now.Goals as goal
+
+pub returns-then-number-ne0 : goal.returns-then-number-ne0
+returns-then-number-ne0 c = sym (other_is c.args.number c.if-number-ne0.true c.args.a c.args.h c.args.slots.now)
+
+pub close-closed-requires : goal.close-closed-requires
+close-closed-requires c = subst (λ (d : Answered). Closable (c.args.a.sorted && d.header.sorted) c.args.slots.now) (sym c.accepted.ensures) (c.requires c.if-number-ne0.false)
+
+pub returns : goal.returns
+returns c = ap (λ (x : Called). x.allocator) c.close-closed.ensures
+    ∙ ap (λ (d : Answered). closed c.args.a d.header c.args.slots.now) c.accepted.ensures
+    ∙ sym (zero_is c.args.number c.if-number-ne0.false c.args.a c.args.h c.args.slots.now)
