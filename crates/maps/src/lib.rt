@@ -13,7 +13,7 @@ use carving::RangeList;
 pub mod byte_map;
 pub mod frame_map;
 
-// A walk by hand hands the reserved areas over by value; the core is lent them.
+// The reserved areas come by value; the core is lent them.
 fn carve_area(area: BootArea, reserved: RangeList, pieces: RangeList) -> RangeList
     requires { Carvable reserved }
     ensures { Appended pieces (pieces_in (ranges_in reserved) (area ∷ [])) result }

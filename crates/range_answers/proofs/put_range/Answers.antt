@@ -1,6 +1,5 @@
 -- `put_range` writes the words of each case as they are shown.
 use mathlib.Core.Path.{refl}
-use borrow.Author.Rules.{rules}
 use Rattle.range_answers.proofs.put_range.Goals as goal
 
 pub returns-in-OutOfBounds : goal.returns-in-OutOfBounds
