@@ -1,0 +1,6 @@
+-- `likhmout_contains_range` writes what `contains_range` of the ranges answers.
+use borrow.Author.Rules.{rules}
+use Rattle.exports.proofs.ranges.likhmout_contains_range.Goals as goal
+
+pub returns : goal.returns
+returns c = rw (← c.new.ensures, ← c.new-2.ensures, ← c.contains_range.ensures) c.put_test.ensures
