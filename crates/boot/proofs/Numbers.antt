@@ -28,7 +28,7 @@ use Rattle.areas.specs.declared.Collected.{Collected}
 use Rattle.areas.specs.Areas.{extents, any_outside, reserved_in, pieces_in, CollectedOf}
 use Rattle.filling.specs.Filled.{filled_record}
 use Rattle.boot.specs.declared.Survey.{Survey}
-use Rattle.boot.specs.Boots.{may_boot, refusal_of, finished, booted_with, CarvedOut, Surveys, Joinable, Finishable}
+use Rattle.boot.specs.Boots.{may_boot, refusal_of, finished, booted_with, CarvedOut, Surveys, Finishable}
 
 -- a boot of these areas on empty lists
 unfoldable pub booted_from : List BootArea → FrameAllocator → Called

@@ -8,7 +8,7 @@ use lib.ListN.{length, take, drop}
 use borrow.Rule.Slice.PartMut.{put_mid}
 use Rattle.model.specs.Lists.{Slot}
 use Rattle.model.specs.Rules.{tidy, rules}
-use Rattle.model.specs.Store.{part, load, store_rules}
+use Rattle.model.specs.Store.{load, store_rules}
 use Rattle.model.specs.declared.FrameAllocator.{FrameAllocator}
 use Rattle.lists.specs.declared.OneList.{OneList}
 use Rattle.lists.specs.declared.record.WhichList.{WhichList}

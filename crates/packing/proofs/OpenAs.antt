@@ -9,10 +9,8 @@ use Rattle.model.specs.Lists.{Lists}
 use Rattle.model.specs.Requests.{Result}
 use Rattle.model.specs.Calls.{Call, Gives, answer, short_buffer}
 use Rattle.model.specs.Store.{load, record_of, words_of}
-use Rattle.model.specs.declared.Answer.{Answer}
 use Rattle.model.specs.declared.Called.{Called}
 use Rattle.model.specs.declared.FrameAllocator.{FrameAllocator}
-use Rattle.model.proofs.Carried.{Stands}
 use Rattle.model.proofs.Lasting.{answer_lawful}
 use Rattle.model.proofs.Lawful.{Lawful}
 use Rattle.model.proofs.Whole.{early_words}

@@ -1,32 +1,29 @@
 -- The packing law, and what a call on a header and entries does to the record.
 use mathlib.Core.Path.{◌≡◌, refl, sym, ap, subst, ◌∙◌}
 use mathlib.Core.Bool.{Bool, true, false, false≢true, ◌&&◌}
-use mathlib.Core.List.{List, [], ◌∷◌, ◌++◌, append-nil}
-use Prim.Native.Nat.{ℕ, ◌+◌, ◌*◌, ◌≤◌}
+use mathlib.Core.List.{List, [], ◌++◌, append-nil}
+use Prim.Native.Nat.{ℕ, ◌+◌}
 use native.Mathlib.Omega.{arith}
-use lib.ListN.{length, drop, length-append, drop_of_length-le, replicate}
+use lib.ListN.{length, length-append, drop_of_length-le, replicate}
 use Rattle.model.specs.Lists.{Lists, Slot, unused}
 use Rattle.model.specs.Rules.{rules}
-use Rattle.model.specs.Requests.{Result}
-use Rattle.model.specs.Store.{load, record_of, words_of, words_in, slots_in, slots_of, slot_words, table_slots, table_words, early_of, early_in, length_in, part}
-use Rattle.model.specs.declared.Called.{Called}
+use Rattle.model.specs.Store.{load, record_of, words_of, words_in, slots_in, slots_of, slot_words, early_of, early_in, length_in}
 use Rattle.model.specs.declared.EarlyList.{EarlyList}
 use Rattle.model.specs.declared.FrameAllocator.{FrameAllocator}
 use Rattle.model.proofs.Lawful.{AllSound, Slots, Lawful}
-use Rattle.model.proofs.Ruled.{rules_lawful, lawful_rules}
-use Rattle.model.proofs.Stored.{Kept, Storable, sorted, early, table_length, words_length}
+use Rattle.model.proofs.Ruled.{lawful_rules}
+use Rattle.model.proofs.Stored.{Kept, sorted, words_length}
 use Rattle.model.proofs.Whole.{Tested, tested}
 use Rattle.rules.specs.Check as whole
-use Rattle.rules.proofs.Going.{stores, ruled, ruled_stands}
+use Rattle.rules.proofs.Going.{stores}
 use Rattle.pairs.specs.Pairs.{pair_slots, IsPairs}
-use Rattle.pairs.proofs.Slots.{pairs_of, pairs_length}
+use Rattle.pairs.proofs.Slots.{pairs_of}
 use Rattle.entries.specs.declared.header.WhichList.{WhichList}
 use Rattle.entries.specs.declared.header.WhichList.TheVariants.{GeneralFree, ReservedFree, GeneralRegions, ReservedRegions}
 use Rattle.entries.specs.declared.header.Header.{Header}
-use Rattle.entries.specs.declared.header.Answered.{Answered}
 use Rattle.entries.specs.Part.{width, part_words, IsPart}
 use Rattle.entries.specs.Part as one
-use Rattle.entries.specs.Whole.{part_at, part_of, length_at, header, lists_in, header_of, entries_of, Ruled, Does}
+use Rattle.entries.specs.Whole.{part_at, part_of, length_at, header, lists_in, header_of, entries_of, Ruled}
 use Rattle.entries.proofs.Whole.{first_is, second_is, third_is, fourth_is}
 use Rattle.packing.specs.Packed.{packed, packed_lists, Unpackable, header_in, closed}
 use Rattle.packing.proofs.Turns.{pack_list}

@@ -1,8 +1,8 @@
 -- A question goes by the number of the test, the held list by the length of its buffer before that.
-use Prim.Native.Nat.{ℕ, zero, suc, ◌≤◌, ◌<◌}
+use Prim.Native.Nat.{ℕ, ◌≤◌, ◌<◌}
 use native.Mathlib.Omega.{arith}
 use mathlib.Core.Path.{◌≡◌, refl, sym, ap, subst, ◌∙◌}
-use mathlib.Core.Bool.{true, false}
+use mathlib.Core.Bool.{false}
 use mathlib.Core.List.{List}
 use lib.ListN.{length}
 use borrow.Author.Tests.{lt-ltb, le-ltb}
@@ -10,13 +10,12 @@ use Rattle.model.specs.Lists.{Lists}
 use Rattle.model.specs.Requests.{without_frames, counted}
 use Rattle.model.specs.Queries.{held_runs, HeldWritten}
 use Rattle.model.specs.Store.{load}
-use Rattle.model.specs.Calls.{Call, held_call, Outcome, answer, short_buffer, unchanged, stored, call, Answers, BufferAfter, ListsHeld}
+use Rattle.model.specs.Calls.{Call, held_call, Outcome, answer, short_buffer, unchanged, stored, call, Answers, ListsHeld}
 use Rattle.model.specs.declared.Answer.{Answer}
 use Rattle.model.specs.declared.FrameAllocator.{FrameAllocator}
 use Rattle.rules.specs.Check.{checked}
 use Rattle.rules.proofs.Numbers.{short_call, gives_refused, accepted_call, checked_ruled}
 use Rattle.entries.specs.Whole.{lists_in, Ruled}
-use Rattle.entries.specs.declared.header.Header.{Header}
 use Rattle.packing.specs.Packed.{Opens}
 use Rattle.packing.specs.Open.{lent}
 use Rattle.packing.specs.declared.Opened.{Opened}

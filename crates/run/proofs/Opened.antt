@@ -1,35 +1,33 @@
 -- The record of a run stands open: what holds of it from call to call.
-use Prim.Native.Nat.{ℕ, zero, suc, ◌≤◌}
+use Prim.Native.Nat.{ℕ, zero, suc}
 use native.Mathlib.Omega.{arith}
 use mathlib.Core.Path.{◌≡◌, refl, sym, ap, subst, ◌∙◌}
-use mathlib.Core.Bool.{Bool, true, false, ◌&&◌}
+use mathlib.Core.Bool.{◌&&◌}
 use mathlib.Core.List.{List}
 use lib.ListN.{length}
 use Rattle.model.specs.Lists.{Lists}
 use Rattle.model.specs.Queries.{HeldWritten, held_runs}
-use Rattle.model.specs.Calls.{Call, held_call, answer, short_buffer, Gives}
+use Rattle.model.specs.Calls.{Call, held_call, answer, short_buffer}
 use Rattle.model.specs.Store.{load, record_of}
-use Rattle.model.specs.declared.Called.{Called}
 use Rattle.model.specs.declared.FrameAllocator.{FrameAllocator}
 use Rattle.model.proofs.Carried.{Stands, loads}
-use Rattle.model.proofs.Each.{changes_form, same_form}
+use Rattle.model.proofs.Each.{same_form}
 use Rattle.model.proofs.Lasting.{answer_lawful}
 use Rattle.model.proofs.Lawful.{Lawful}
 use Rattle.rules.specs.Check as whole
 use Rattle.rules.specs.Check.{checked}
 use Rattle.rules.proofs.Going.{ruled_stands, gives_does}
 use Rattle.rules.proofs.Numbers.{checked_ruled}
-use Rattle.entries.specs.Whole.{lists_in, refused_with, Ruled}
+use Rattle.entries.specs.Whole.{lists_in, Ruled}
 use Rattle.entries.specs.declared.header.Header.{Header}
 use Rattle.entries.specs.declared.header.Answered.{Answered}
 use Rattle.packing.specs.Packed.{Apart, Closable, closed}
 use Rattle.packing.specs.Open.{lent, DoesOpen}
 use Rattle.packing.proofs.OpenAs.{OpenAs, apart_as, open_ruled, open_lists, open_answers, open_words, open_after, close_can, close_is}
-use Rattle.query_core.specs.Listed.{Listed}
 use Rattle.queries.proofs.Asked.{held_going}
 use Rattle.run_calls.specs.declared.OpenCall.{OpenCall}
 use Rattle.run_calls.specs.Commands.{open_call}
-use Rattle.run_calls.specs.Made.{number_for, Left, Made, LeftOpen, MadeOpen, refused, done}
+use Rattle.run_calls.specs.Made.{number_for, Made, LeftOpen, MadeOpen, refused, done}
 use Rattle.run_calls.proofs.Making.{goes_long, goes_on, made_refused, open_keeps, long_held}
 use Rattle.run.specs.Runs.{record_now}
 

@@ -2,10 +2,9 @@
 use Prim.Native.Nat.{ℕ, ◌+◌, ◌*◌, ◌-◌, ◌≤◌, ◌<◌}
 use native.Mathlib.Omega.{arith}
 use mathlib.Core.Path.{◌≡◌, refl, sym, ap, subst, ◌∙◌}
-use mathlib.Core.Bool.{Bool, true, false, ◌&&◌}
+use mathlib.Core.Bool.{Bool, true, false}
 use mathlib.Core.List.{List}
 use lib.ListN.{length, take, drop}
-use lib.Dec.{ltb}
 use borrow.Author.Tests.{leb-true, lt-ltb, le-ltb, ltb-false}
 use Rattle.std.specs.Prelude.{if◌then◌else◌}
 use Rattle.memory_structs.specs.Range.{above_top}
@@ -45,7 +44,6 @@ use Rattle.run_calls.specs.declared.OpenCall.{OpenCall}
 use Rattle.run_calls.specs.declared.OpenCall.TheVariants.{Allocate, Return, KindOf, FreeTotal, HeldList}
 use Rattle.run_calls.specs.Commands.{are_listed, Listed, areas_at, form_call, open_call}
 use Rattle.run_calls.specs.Made.{number_for, Made, LeftOpen, MadeOpen, done}
-use Rattle.run_calls.specs.Made as made
 
 -- ---- a boot's areas: the part of the list from one word to another
 

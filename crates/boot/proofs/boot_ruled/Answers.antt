@@ -6,7 +6,6 @@ use Rattle.boot.proofs.Given.{ten, may}
 use Rattle.boot.proofs.Numbers.{refused_first, refused_then, finished_last}
 use native.Mathlib.Omega.{arith}
 use borrow.Author.Tests.{not-true, not-false}
-use borrow.Author.Rules.{rules}
 use Rattle.boot.proofs.boot_ruled.Goals as goal
 
 pub returns-then-has_entries : goal.returns-then-has_entries

@@ -1,9 +1,8 @@
 -- `boot_surveyed`: 3 or 11, else as a record that keeps the rules is booted.
-use mathlib.Core.Path.{◌≡◌, sym, ◌∙◌}
+use mathlib.Core.Path.{sym, ◌∙◌}
 use Rattle.rules.proofs.Numbers.{checked_ruled}
 use Rattle.boot.proofs.Given.{number_first}
 use Rattle.boot.proofs.Numbers.{refused_first}
-use borrow.Author.Rules.{rules}
 use Rattle.boot.proofs.boot_surveyed.Goals as goal
 
 pub returns-then-broken-ne0 : goal.returns-then-broken-ne0

@@ -2,7 +2,6 @@
 use Rattle.areas.specs.Areas.{read}
 use Rattle.boot.proofs.Numbers.{survey_ready}
 use Rattle.boot.proofs.Given.{words_boot, surveyed_gives}
-use borrow.Author.Rules.{rules}
 use Rattle.boot.proofs.boot_words.Goals as goal
 
 pub boot_ruled-requires : goal.boot_ruled-requires

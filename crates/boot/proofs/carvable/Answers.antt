@@ -1,6 +1,5 @@
 -- `carvable`: the reserved areas that were collected, or none.
-use mathlib.Core.Path.{◌≡◌, sym, ◌∙◌}
-use Rattle.boot.specs.Boots.{CarvedOut}
+use mathlib.Core.Path.{sym, ◌∙◌}
 use Rattle.boot.proofs.Numbers.{none_carvable}
 use borrow.Author.Rules.{rules}
 use Rattle.boot.proofs.carvable.Goals as goal

@@ -2,7 +2,6 @@
 use mathlib.Core.Path.{sym, ap, ◌∙◌}
 use Rattle.rules.specs.Check.{accepted_with}
 use Rattle.boot.proofs.Numbers.{joined_whole, joined_apart, fills, six, seven}
-use borrow.Author.Rules.{rules}
 use Rattle.boot.proofs.finish.Goals as goal
 
 pub returns-then-pieces-gt32 : goal.returns-then-pieces-gt32

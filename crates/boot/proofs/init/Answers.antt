@@ -3,7 +3,6 @@ use Rattle.areas.specs.declared.AreaUnit.TheVariants.{Frames}
 use Rattle.areas.specs.Areas.{read}
 use Rattle.boot.proofs.Numbers.{survey_ready}
 use Rattle.boot.proofs.Given.{frame_words_boot, surveyed_gives}
-use borrow.Author.Rules.{rules}
 use Rattle.boot.proofs.init.Goals as goal
 
 pub boot_surveyed-requires : goal.boot_surveyed-requires

@@ -1,14 +1,7 @@
 -- `survey_words`: the areas that are read, collected and carved.
-use mathlib.Core.Path.{◌≡◌, ap, ◌∙◌}
-use mathlib.Core.List.{List}
-use Rattle.memory_structs.specs.declared.range.FrameRange.{FrameRange}
-use Rattle.carving.specs.declared.RangeList.{RangeList}
-use Rattle.carving.specs.Ranges.{listed, ranges_in}
-use Rattle.areas.specs.Areas.{read, pieces_in}
-use Rattle.boot.specs.Boots.{Surveys}
+use Rattle.areas.specs.Areas.{read}
 use Rattle.boot.proofs.Numbers.{may_carve, surveyed}
 use Rattle.boot.proofs.Given.{words_bounded}
-use borrow.Author.Rules.{rules}
 use Rattle.boot.proofs.survey_words.Goals as goal
 
 pub carvable-requires : goal.carvable-requires

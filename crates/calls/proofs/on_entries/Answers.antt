@@ -1,6 +1,5 @@
 -- `on_entries`: each operation by the function that does it.
 use Rattle.calls.proofs.Kept.{request_does, return_does}
-use borrow.Author.Rules.{rules}
 use Rattle.calls.proofs.on_entries.Goals as goal
 
 pub returns-in-Allocate : goal.returns-in-Allocate

@@ -2,7 +2,6 @@
 use Rattle.model.specs.Calls.{answer}
 use Rattle.packing.proofs.Lending.{ruled_words, ruled_slots, does_words, does_slots}
 use Rattle.calls.specs.Operations.{call_of}
-use borrow.Author.Rules.{rules}
 use Rattle.calls.proofs.operate.Goals as goal
 
 pub on_entries-requires : goal.on_entries-requires

@@ -1,15 +1,13 @@
 -- `perform`: refused by 3 or 11; or opened, done and closed.
 use mathlib.Core.Path.{◌≡◌, sym, subst, ◌∙◌}
 use mathlib.Core.Bool.{false}
-use Rattle.model.specs.Store.{load}
-use Rattle.model.specs.Calls.{Gives, answer, short_buffer}
+use Rattle.model.specs.Calls.{Gives}
 use Rattle.model.specs.declared.Called.{Called}
 use Rattle.rules.specs.Check.{checked}
 use Rattle.rules.proofs.Numbers.{gives_refused}
 use Rattle.packing.proofs.OpenAs.{call_may, call_closes, call_gives}
 use Rattle.calls.specs.Operations.{call_of}
 use Rattle.calls.proofs.Kept.{never_short, keeps_form}
-use borrow.Author.Rules.{rules}
 use Rattle.calls.proofs.perform.Goals as goal
 
 pub returns-then-opened-ne0 : goal.returns-then-opened-ne0

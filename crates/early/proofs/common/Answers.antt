@@ -1,6 +1,5 @@
 -- `early::common`: the higher start and the lower end.
 use mathlib.Core.Path.{◌∙◌}
-use borrow.Author.Rules.{rules}
 use Rattle.early.proofs.common.Goals as goal
 
 pub returns : goal.returns

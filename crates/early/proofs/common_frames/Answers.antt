@@ -2,7 +2,6 @@
 use native.Mathlib.Omega.{arith}
 use mathlib.Core.Path.{◌≡◌, ap, ◌∙◌}
 use Prim.Native.Nat.{◌+◌, ◌-◌, min}
-use borrow.Author.Rules.{rules}
 use Rattle.memory_structs.specs.Range.{size}
 use Rattle.memory_structs.specs.declared.range.FrameRange.{FrameRange}
 use Rattle.early.proofs.common_frames.Goals as goal

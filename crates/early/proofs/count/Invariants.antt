@@ -1,10 +1,8 @@
 -- `early::count`: at each turn n of the first i slots are used.
-use native.Mathlib.Omega.{arith}
-use mathlib.Core.Path.{◌≡◌, ap}
-use mathlib.Core.Logic.{⊎_elim}
+use mathlib.Core.Path.{◌≡◌}
 use Prim.Native.Nat.{◌+◌, ◌-◌, ◌≤◌}
 use lib.ListN.{length}
-use Rattle.early.proofs.UsedSlots.{entries_from, one_used, none_used_holds, none_left}
+use Rattle.early.proofs.UsedSlots.{entries_from}
 use Rattle.early.proofs.count.Given as goal
 
 abbrev pub invariant-loop-i : goal.invariant-loop-i

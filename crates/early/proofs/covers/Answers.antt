@@ -2,7 +2,6 @@
 use mathlib.Core.Path.{ap, ◌∙◌}
 use Prim.Native.Nat.{ℕ, ◌-◌}
 use lib.Dec.{ltb}
-use borrow.Author.Rules.{rules}
 use Rattle.model.specs.Store.{slots_of}
 use Rattle.model.proofs.Ruled.{tidy_is}
 use Rattle.early.specs.Slots.{early_list_of}

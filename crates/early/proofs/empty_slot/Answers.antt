@@ -5,7 +5,6 @@ use Rattle.model.specs.Lists.{unused}
 use Rattle.model.specs.Store.{early_of, slots_of}
 use Rattle.early.proofs.First.{remove_is}
 use Rattle.early.proofs.Slots.{written}
-use borrow.Author.Rules.{rules}
 use Rattle.early.proofs.empty_slot.Goals as goal
 
 pub returns : goal.returns

@@ -2,7 +2,6 @@
 use Rattle.memory_structs.specs.Range.{range}
 use Rattle.model.specs.Lists.{used}
 use Rattle.early.proofs.Slots.{written}
-use borrow.Author.Rules.{rules}
 use Rattle.early.proofs.fill.Goals as goal
 
 pub returns : goal.returns

@@ -1,11 +1,9 @@
 -- `early::first_unused`: at each turn the first i slots are used.
 use native.Mathlib.Omega.{arith}
-use mathlib.Core.Path.{◌≡◌, sym, ap, ◌∙◌}
-use Prim.Native.Nat.{◌-◌, ◌≤◌}
-use lib.ListN.{drop}
+use mathlib.Core.Path.{sym, ap, ◌∙◌}
 use mathlib.Core.Bool.{not}
 use Rattle.model.specs.Store.{slots_of}
-use Rattle.early.proofs.First.{first_slot, is_unused, onward, unused_is, first_starts, first_passes, first_stops, first_ends}
+use Rattle.early.proofs.First.{is_unused, unused_is, first_starts, first_passes, first_stops, first_ends}
 use Rattle.early.proofs.Slots.{reads_unused}
 use Rattle.early.proofs.first_unused.Goals as goal
 

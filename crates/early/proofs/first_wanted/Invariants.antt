@@ -1,15 +1,9 @@
 -- `early::first_wanted`: at each turn none of the first i slots is wanted.
-use borrow.Author.Rules.{rules}
-use native.Mathlib.Omega.{arith}
-use mathlib.Core.Path.{◌≡◌, sym, ◌∙◌}
-use mathlib.Core.Bool.{Bool}
-use Rattle.memory_structs.specs.declared.range.FrameRange.{FrameRange}
-use mathlib.Core.Logic.{⊎_elim}
+use mathlib.Core.Path.{◌≡◌}
 use Prim.Native.Nat.{◌-◌, ◌≤◌}
 use lib.ListN.{drop}
 use Rattle.model.specs.Store.{slots_of}
-use Rattle.early.proofs.First.{first_slot, passes, onward, where_is, first_starts, first_passes, first_stops, first_ends}
-use Rattle.early.proofs.Slots.{reads_used, reads_none}
+use Rattle.early.proofs.First.{first_slot, passes, onward}
 use Rattle.early.specs.Slots.{wants}
 use Rattle.early.proofs.first_wanted.Given as goal
 

@@ -1,10 +1,8 @@
 -- `early::frames_in`: at each turn `total` frames of the range are in the first i slots.
 use mathlib.Core.Path.{◌≡◌, ap}
-use mathlib.Core.Logic.{⊎_elim}
-use Prim.Native.Nat.{◌+◌, ◌-◌, ◌*◌, ◌≤◌}
+use Prim.Native.Nat.{◌+◌, ◌≤◌}
 use Rattle.memory_structs.specs.Range.{range, top}
 use Rattle.model.proofs.Ruled.{tidy_is}
-use Rattle.model.specs.declared.EarlyList.{EarlyList}
 use Rattle.early.specs.Slots.{early_list_of, frames_in}
 use Rattle.early.proofs.UsedSlots.{entries_from, none_used_holds, frames_here, frames_none, used_sound}
 use native.Mathlib.Omega.{arith}
@@ -21,8 +19,10 @@ overflow_add-total c =
     let i = c.loop-slot.slot in
     let t = tidy_is _ _ c.requires in
     let r = range a.start a.end in
-    elim c.if-used-slot.branch [ then-used-slot w ↦ omega (arith, w.common_frames-frames.ensures, used_sound ((early_list_of c.args.starts.now c.args.ends.now c.args.used.now)) i t.shape.slots (omega arith) w.if-used-slot.true t.shape.sound, frames_here r ((early_list_of c.args.starts.now c.args.ends.now c.args.used.now)) i t.shape.slots (omega arith) w.if-used-slot.true)
-      | else-used-slot w ↦ omega (arith, ap (frames_in r) (none_used_holds ((early_list_of c.args.starts.now c.args.ends.now c.args.used.now)) i t.shape.slots (omega arith) w.if-used-slot.false)) ] in
+    elim c.if-used-slot.branch [
+      | then-used-slot w ↦ omega (arith, w.common_frames-frames.ensures, used_sound ((early_list_of c.args.starts.now c.args.ends.now c.args.used.now)) i t.shape.slots (omega arith) w.if-used-slot.true t.shape.sound, frames_here r ((early_list_of c.args.starts.now c.args.ends.now c.args.used.now)) i t.shape.slots (omega arith) w.if-used-slot.true)
+      | else-used-slot w ↦ omega (arith, ap (frames_in r) (none_used_holds ((early_list_of c.args.starts.now c.args.ends.now c.args.used.now)) i t.shape.slots (omega arith) w.if-used-slot.false))
+    ] in
     omega (arith, turn)
 
 pub loop-slot-preserved : goal.loop-slot-preserved
@@ -31,8 +31,10 @@ loop-slot-preserved c =
     let i = c.loop-slot.slot in
     let t = tidy_is _ _ c.requires in
     let r = range a.start a.end in
-    elim c.if-used-slot.branch [ then-used-slot w ↦ omega (arith, w.common_frames-frames.ensures, used_sound ((early_list_of c.args.starts.now c.args.ends.now c.args.used.now)) i t.shape.slots (omega arith) w.if-used-slot.true t.shape.sound, frames_here r ((early_list_of c.args.starts.now c.args.ends.now c.args.used.now)) i t.shape.slots (omega arith) w.if-used-slot.true)
-      | else-used-slot w ↦ omega (arith, ap (frames_in r) (none_used_holds ((early_list_of c.args.starts.now c.args.ends.now c.args.used.now)) i t.shape.slots (omega arith) w.if-used-slot.false)) ] in
+    elim c.if-used-slot.branch [
+      | then-used-slot w ↦ omega (arith, w.common_frames-frames.ensures, used_sound ((early_list_of c.args.starts.now c.args.ends.now c.args.used.now)) i t.shape.slots (omega arith) w.if-used-slot.true t.shape.sound, frames_here r ((early_list_of c.args.starts.now c.args.ends.now c.args.used.now)) i t.shape.slots (omega arith) w.if-used-slot.true)
+      | else-used-slot w ↦ omega (arith, ap (frames_in r) (none_used_holds ((early_list_of c.args.starts.now c.args.ends.now c.args.used.now)) i t.shape.slots (omega arith) w.if-used-slot.false))
+    ] in
     omega (arith, turn)
 
 pub returns : goal.returns

@@ -1,13 +1,9 @@
 -- `early::frames_in`: at each turn `total` frames of the range are in the first i slots.
-use mathlib.Core.Path.{◌≡◌, ap}
-use mathlib.Core.Logic.{⊎_elim}
+use mathlib.Core.Path.{◌≡◌}
 use Prim.Native.Nat.{◌+◌, ◌-◌, ◌*◌, ◌≤◌}
 use Rattle.memory_structs.specs.Range.{range, top}
-use Rattle.model.proofs.Ruled.{tidy_is}
-use Rattle.model.specs.declared.EarlyList.{EarlyList}
 use Rattle.early.specs.Slots.{early_list_of, frames_in}
-use Rattle.early.proofs.UsedSlots.{entries_from, none_used_holds, frames_here, frames_none, used_sound}
-use native.Mathlib.Omega.{arith}
+use Rattle.early.proofs.UsedSlots.{entries_from}
 use Rattle.early.proofs.frames_in.Given as goal
 
 abbrev pub invariant-loop-slot : goal.invariant-loop-slot

@@ -6,14 +6,13 @@ use Rattle.model.specs.declared.Place.TheVariants.{Nowhere, At}
 use Rattle.model.specs.Store.{slots_of, early_of}
 use Rattle.early.specs.Slots.{first_unused}
 use Rattle.early.proofs.First.{insert_at_holds, insert_full, unused_bound}
-use borrow.Author.Rules.{rules}
 use Rattle.early.proofs.insert.Goals as goal
 
 pub fill-requires : goal.fill-requires
 fill-requires c = let e : first_unused (slots_of c.args.l) ≡ At c.in-At.i = sym c.first_unused.ensures ∙ c.in-At.is in record {
-      early = c.requires;
-      i_bound = omega (arith, unused_bound _ _ e, c.requires.size);
-    }
+  early = c.requires;
+  i_bound = omega (arith, unused_bound _ _ e, c.requires.size);
+}
 
 pub returns-in-At : goal.returns-in-At
 returns-in-At c = let a = c.args in

@@ -3,7 +3,6 @@ use mathlib.Core.Path.{sym, ◌∙◌, ap}
 use Rattle.memory_structs.specs.Range.{range}
 use Rattle.early.specs.Slots.{wants}
 use Rattle.early.specs.declared.Wanted.{Wanted}
-use borrow.Author.Rules.{rules}
 use Rattle.early.proofs.is_wanted.Goals as goal
 
 pub returns-in-Large : goal.returns-in-Large

@@ -1,16 +1,10 @@
 -- `early::meets_from`: at each turn none of the slots before i meets the range.
-use native.Mathlib.Omega.{arith}
-use mathlib.Core.Path.{◌≡◌, refl, sym, ap, ◌∙◌}
-use mathlib.Core.Logic.{⊎_elim}
-use mathlib.Core.Bool.{Bool}
+use mathlib.Core.Path.{◌≡◌}
 use Prim.Native.Nat.{◌-◌}
-use borrow.Author.Rules.{rules}
 use Rattle.memory_structs.specs.Range.{range, meets}
-use Rattle.memory_structs.specs.declared.range.FrameRange.{FrameRange}
 use Rattle.model.specs.Lists.{any_of}
-use Rattle.model.specs.declared.EarlyList.{EarlyList}
 use Rattle.early.specs.Slots.{early_list_of}
-use Rattle.early.proofs.UsedSlots.{entries_from, none_used_holds, any_here, any_later, any_none}
+use Rattle.early.proofs.UsedSlots.{entries_from}
 use Rattle.early.proofs.meets_from.Given as goal
 
 abbrev pub invariant-loop-i : goal.invariant-loop-i

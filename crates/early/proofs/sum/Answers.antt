@@ -1,6 +1,5 @@
 -- `early::sum`: every frame of a slot is at or below the top.
 use mathlib.Core.Path.{◌∙◌}
-use borrow.Author.Rules.{rules}
 use Rattle.model.specs.Store.{slots_of}
 use Rattle.model.proofs.Ruled.{tidy_is}
 use Rattle.early.proofs.Covered.{counted_all}

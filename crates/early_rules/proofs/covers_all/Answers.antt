@@ -1,14 +1,12 @@
 -- `early_rules::covers_all`: at each turn the chunks of the first i slots lie in the regions.
-use mathlib.Core.Path.{◌≡◌, refl, sym, ap, ◌∙◌}
+use mathlib.Core.Path.{sym, ap, ◌∙◌}
 use mathlib.Core.Bool.{Bool}
-use mathlib.Core.Logic.{⊎_elim}
 use Prim.Native.Nat.{◌-◌}
-use borrow.Author.Tests.{not-true, not-false}
 use Rattle.memory_structs.specs.declared.range.FrameRange.{FrameRange}
 use Rattle.model.specs.Lists.{entries, all_of, in_union}
 use Rattle.model.specs.Store.{slots_of}
 use Rattle.model.proofs.Ruled.{tidy_is}
-use Rattle.early.proofs.UsedSlots.{entries_from, none_used_holds, used_sound}
+use Rattle.early.proofs.UsedSlots.{none_used_holds, used_sound}
 use Rattle.early_rules.proofs.Entries.{all_fails, all_later, all_done}
 use native.Mathlib.Omega.{arith}
 use Rattle.early_rules.proofs.covers_all.Goals as goal
@@ -16,9 +14,9 @@ use Rattle.early_rules.proofs.covers_all.Goals.{else-chunks-i, then-chunks-i+els
 
 pub covers-requires : goal.covers-requires
 covers-requires c = let t = tidy_is _ _ c.requires.chunks_value in record {
-      used_value = c.requires.regions_value;
-      start_le_end = (used_sound c.args.chunks c.loop-i.i t.shape.slots (omega arith) c.if-chunks-i.true t.shape.sound).filled;
-    }
+  used_value = c.requires.regions_value;
+  start_le_end = (used_sound c.args.chunks c.loop-i.i t.shape.slots (omega arith) c.if-chunks-i.true t.shape.sound).filled;
+}
 
 pub returns-then-not-covers : goal.returns-then-not-covers
 returns-then-not-covers c = let a = c.args in
@@ -29,8 +27,10 @@ loop-i-preserved c = let a = c.args in
     let i = c.loop-i.i in
     let n = (tidy_is _ _ c.requires.chunks_value).shape.slots in
     let p : FrameRange → Bool = in_union (entries (slots_of a.regions)) in
-    c.loop-i.invariant ∙ elim c.if-chunks-i.branch [ then-chunks-i+else-not-covers w ↦ all_later p a.chunks i n (omega arith) w.if-chunks-i.true (sym w.covers.ensures ∙ w.if-not-covers.false)
-      | else-chunks-i w ↦ ap (all_of p) (none_used_holds a.chunks i n (omega arith) w.if-chunks-i.false) ]
+    c.loop-i.invariant ∙ elim c.if-chunks-i.branch [
+      | then-chunks-i+else-not-covers w ↦ all_later p a.chunks i n (omega arith) w.if-chunks-i.true (sym w.covers.ensures ∙ w.if-not-covers.false)
+      | else-chunks-i w ↦ ap (all_of p) (none_used_holds a.chunks i n (omega arith) w.if-chunks-i.false)
+    ]
 
 pub returns : goal.returns
 returns c = let a = c.args in

@@ -1,16 +1,9 @@
 -- `early_rules::covers_all`: at each turn the chunks of the first i slots lie in the regions.
-use mathlib.Core.Path.{◌≡◌, refl, sym, ap, ◌∙◌}
-use mathlib.Core.Bool.{Bool}
-use mathlib.Core.Logic.{⊎_elim}
+use mathlib.Core.Path.{◌≡◌}
 use Prim.Native.Nat.{◌-◌}
-use borrow.Author.Tests.{not-true, not-false}
-use Rattle.memory_structs.specs.declared.range.FrameRange.{FrameRange}
 use Rattle.model.specs.Lists.{entries, all_of, in_union}
 use Rattle.model.specs.Store.{slots_of}
-use Rattle.model.proofs.Ruled.{tidy_is}
-use Rattle.early.proofs.UsedSlots.{entries_from, none_used_holds, used_sound}
-use Rattle.early_rules.proofs.Entries.{all_fails, all_later, all_done}
-use native.Mathlib.Omega.{arith}
+use Rattle.early.proofs.UsedSlots.{entries_from}
 use Rattle.early_rules.proofs.covers_all.Given as goal
 
 abbrev pub invariant-loop-i : goal.invariant-loop-i

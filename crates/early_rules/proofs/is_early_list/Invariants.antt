@@ -1,17 +1,12 @@
 -- `early_rules::is_early_list`: at each turn the first i slots keep the rules.
-use mathlib.Core.Path.{◌≡◌, sym, ◌∙◌}
+use mathlib.Core.Path.{◌≡◌}
 use mathlib.Core.Bool.{false, ◌&&◌}
 use Prim.Native.Nat.{◌-◌}
-use borrow.Author.Tests.{not-true, not-false}
 use Rattle.model.specs.Rules.{tidy}
 use Rattle.model.specs.Store.{slots_of, emptied}
-use Rattle.early.proofs.Slots.{Arrays, slots_size}
 use Rattle.early_rules.specs.Slot.{tidy_slot}
-use Rattle.model.specs.declared.EarlyList.{EarlyList}
 use Rattle.early.specs.Slots.{early_list_of}
-use Rattle.early_rules.proofs.Slotwise.{each_from, tidy_slots, each_fails, each_later, each_done}
-use borrow.Author.Rules.{rules}
-use native.Mathlib.Omega.{arith}
+use Rattle.early_rules.proofs.Slotwise.{each_from}
 use Rattle.early_rules.proofs.is_early_list.Given as goal
 
 abbrev pub invariant-loop-i : goal.invariant-loop-i

@@ -1,15 +1,9 @@
 -- `early_rules::is_idle`: at each turn the first i slots are unused and hold [1,0].
-use mathlib.Core.Path.{◌≡◌, sym, ◌∙◌}
-use mathlib.Core.Bool.{◌&&◌}
-use mathlib.Core.Logic.{⊎_elim}
+use mathlib.Core.Path.{sym, ◌∙◌}
 use Prim.Native.Nat.{◌-◌}
-use borrow.Author.Tests.{not-true, not-false}
-use borrow.Author.Rules.{rules}
-use Rattle.model.specs.Store.{emptied, none_used}
 use Rattle.early.proofs.Slots.{Arrays}
-use Rattle.model.specs.declared.EarlyList.{EarlyList}
 use Rattle.early.specs.Slots.{early_list_of}
-use Rattle.early_rules.proofs.Slotwise.{each_from, idle_slot, idle_is, idle_used, idle_numbers, idle_slot_holds, each_fails, each_later, each_done}
+use Rattle.early_rules.proofs.Slotwise.{idle_slot, idle_is, idle_used, idle_numbers, idle_slot_holds, each_fails, each_later, each_done}
 use native.Mathlib.Omega.{arith}
 use Rattle.early_rules.proofs.is_idle.Goals as goal
 use Rattle.early_rules.proofs.is_idle.Goals.{then-used-i-via-then-used-i, then-used-i-via-else-used-i+then-not-is_empty_constant}
@@ -27,8 +21,10 @@ returns-then-used-i c =
     sym
     (c.loop-i.invariant
     ∙ each_fails idle_slot l i sizes (omega arith)
-    (elim c.then-used-i.branch [ then-used-i-via-then-used-i w ↦ idle_used _ _ _ _ w.if-used-i.true
-      | then-used-i-via-else-used-i+then-not-is_empty_constant w ↦ idle_numbers _ _ _ _ (sym w.is_empty_constant.ensures ∙ w.if-not-is_empty_constant.true) ]))
+    (elim c.then-used-i.branch [
+      | then-used-i-via-then-used-i w ↦ idle_used _ _ _ _ w.if-used-i.true
+      | then-used-i-via-else-used-i+then-not-is_empty_constant w ↦ idle_numbers _ _ _ _ (sym w.is_empty_constant.ensures ∙ w.if-not-is_empty_constant.true)
+    ]))
 
 pub loop-i-preserved : goal.loop-i-preserved
 loop-i-preserved c =

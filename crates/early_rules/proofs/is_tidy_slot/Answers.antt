@@ -1,9 +1,7 @@
 -- `early_rules::is_tidy_slot` tests in turn what the definition joins by `&&`.
 use mathlib.Core.Path.{ap, ◌∙◌}
 use mathlib.Core.Bool.{not}
-use borrow.Author.Tests.{not-true, not-false}
 use Rattle.early_rules.proofs.Slotwise.{slot_unused, slot_empty, slot_high, slot_used}
-use borrow.Author.Rules.{rules}
 use Rattle.early_rules.proofs.is_tidy_slot.Goals as goal
 
 pub returns-then-not-used-i : goal.returns-then-not-used-i

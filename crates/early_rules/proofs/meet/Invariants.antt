@@ -1,16 +1,13 @@
 -- `early_rules::meet`: at each turn no entry of the first i slots meets the other list.
-use mathlib.Core.Path.{◌≡◌, refl, sym, ap, ◌∙◌}
+use mathlib.Core.Path.{◌≡◌}
 use mathlib.Core.Bool.{Bool}
-use mathlib.Core.Logic.{⊎_elim}
 use Prim.Native.Nat.{◌-◌}
 use Rattle.memory_structs.specs.Range.{meets}
 use Rattle.memory_structs.specs.declared.range.FrameRange.{FrameRange}
 use Rattle.model.specs.Lists.{entries, any_of}
 use Rattle.model.specs.Store.{slots_of}
 use Rattle.model.specs.declared.EarlyList.{EarlyList}
-use Rattle.early.proofs.Slots.{array_sizes, slots_size}
-use Rattle.early.proofs.UsedSlots.{entries_from, none_used_holds, any_here, any_later, any_none}
-use native.Mathlib.Omega.{arith}
+use Rattle.early.proofs.UsedSlots.{entries_from}
 use Rattle.early_rules.proofs.meet.Given as goal
 
 abbrev pub meets_any : EarlyList → FrameRange → Bool

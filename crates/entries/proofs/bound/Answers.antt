@@ -1,5 +1,5 @@
 -- `bound`: by the form.
-use mathlib.Core.Path.{◌≡◌, refl, sym, ap, ◌∙◌}
+use mathlib.Core.Path.{sym, ap}
 use Rattle.model.specs.Lists.{bound}
 use Rattle.entries.proofs.bound.Goals as goal
 

@@ -1,5 +1,5 @@
 -- `count`: by the form.
-use mathlib.Core.Path.{◌≡◌, refl, sym, ap, ◌∙◌}
+use mathlib.Core.Path.{sym, ◌∙◌}
 use lib.ListN.{length}
 use Rattle.model.specs.Lists.{entries}
 use Rattle.entries.proofs.Part.{as_pairs, sorted_count, at_early}

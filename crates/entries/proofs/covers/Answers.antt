@@ -1,11 +1,10 @@
 -- `covers`: by the form.
 use native.Mathlib.Omega.{arith}
-use mathlib.Core.Path.{◌≡◌, refl, sym, ap, ◌∙◌}
-use Rattle.memory_structs.specs.Range.{range, meets}
-use Rattle.model.specs.Lists.{entries, any_of, in_union, sum}
+use mathlib.Core.Path.{sym, ◌∙◌}
+use Rattle.memory_structs.specs.Range.{range}
+use Rattle.model.specs.Lists.{entries, in_union}
 use Rattle.model.specs.Rules.{tidy}
 use Rattle.entries.proofs.Part.{as_table, as_pairs, at_sorted, at_early}
-use Rattle.tables.proofs.covers.Reads as covers-reads'
 use Rattle.entries.proofs.covers.Goals as goal
 
 pub covers-requires : goal.covers-requires

@@ -1,8 +1,7 @@
 -- `entry`: the pair at i, in either form.
-use mathlib.Core.Path.{◌≡◌, refl, sym, ap, ◌∙◌}
+use mathlib.Core.Path.{◌∙◌}
 use Rattle.entries.proofs.Part.{in_part, entry_at}
 use native.Mathlib.Omega.{arith}
-use borrow.Author.Rules.{rules}
 use Rattle.entries.proofs.entry.Goals as goal
 
 pub overflow_mul-i : goal.overflow_mul-i

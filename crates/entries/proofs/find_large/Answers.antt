@@ -1,6 +1,6 @@
 -- `find_large`: by the form.
 use native.Mathlib.Omega.{arith}
-use mathlib.Core.Path.{◌≡◌, refl, sym, ap, ◌∙◌}
+use mathlib.Core.Path.{sym, ◌∙◌}
 use Rattle.model.specs.Requests.{large_enough}
 use Rattle.pairs.specs.Pairs.{first_of}
 use Rattle.entries.proofs.Part.{as_table, as_pairs, at_sorted, at_early}

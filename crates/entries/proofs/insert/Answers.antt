@@ -1,7 +1,7 @@
 -- `insert`: the insert of the form.
 use native.Mathlib.Omega.{arith}
-use mathlib.Core.Path.{◌≡◌, refl, sym, ap, ◌∙◌}
-use Prim.Native.Nat.{◌+◌, ◌<◌}
+use mathlib.Core.Path.{sym, ◌∙◌}
+use Prim.Native.Nat.{◌<◌}
 use Rattle.memory_structs.specs.Range.{range}
 use Rattle.model.specs.Lists.{insert}
 use Rattle.model.specs.Rules.{slotted}
@@ -10,8 +10,6 @@ use Rattle.model.proofs.Stored.{table_length}
 use Rattle.tables.proofs.Search.{length_inserted}
 use Rattle.tables.proofs.Table.{table_inserted}
 use Rattle.entries.proofs.Part.{as_table, as_pairs, at_sorted, room, sorted_after, early_after}
-use borrow.Author.Rules.{rules}
-use Rattle.tables.proofs.insert.Reads as insert-reads'
 use Rattle.entries.proofs.insert.Goals as goal
 
 pub insert-requires : goal.insert-requires

@@ -1,8 +1,8 @@
 -- `meets`: by the form.
 use native.Mathlib.Omega.{arith}
-use mathlib.Core.Path.{◌≡◌, refl, sym, ap, ◌∙◌}
+use mathlib.Core.Path.{sym, ◌∙◌}
 use Rattle.memory_structs.specs.Range.{range, meets}
-use Rattle.model.specs.Lists.{entries, any_of, in_union, sum}
+use Rattle.model.specs.Lists.{entries, any_of}
 use Rattle.model.specs.Rules.{tidy}
 use Rattle.entries.proofs.Part.{as_table, as_pairs, at_sorted, at_early}
 use Rattle.entries.proofs.meets.Goals as goal

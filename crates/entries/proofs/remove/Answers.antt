@@ -1,5 +1,5 @@
 -- `remove`: the removal of the form.
-use mathlib.Core.Path.{◌≡◌, refl, sym, ap, ◌∙◌}
+use mathlib.Core.Path.{sym, ap, ◌∙◌}
 use mathlib.Core.Bool.{false}
 use Prim.Native.Nat.{ℕ, ◌+◌, ◌-◌, ◌≤◌, ◌<◌}
 use Rattle.model.specs.Lists.{remove}
@@ -8,7 +8,6 @@ use Rattle.model.proofs.Stored.{table_length}
 use Rattle.pairs.specs.Pairs.{pair_slots}
 use Rattle.entries.proofs.Part.{as_table, as_pairs, sorted_length, early_length, length_removed, sorted_after, early_after}
 use native.Mathlib.Omega.{arith}
-use borrow.Author.Rules.{rules}
 use Rattle.entries.proofs.remove.Goals as goal
 
 pub remove_at-requires : goal.remove_at-requires

@@ -2,7 +2,6 @@
 use lib.ListN.{length-set}
 use Rattle.entries.proofs.Part.{in_part, replaced_at}
 use native.Mathlib.Omega.{arith}
-use borrow.Author.Rules.{rules}
 use Rattle.entries.proofs.replace.Goals as goal
 
 pub overflow_mul-t : goal.overflow_mul-t

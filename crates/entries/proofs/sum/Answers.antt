@@ -1,11 +1,9 @@
 -- `sum`: by the form.
 use native.Mathlib.Omega.{arith}
-use mathlib.Core.Path.{◌≡◌, refl, sym, ap, ◌∙◌}
-use Rattle.memory_structs.specs.Range.{range, meets}
-use Rattle.model.specs.Lists.{entries, any_of, in_union, sum}
+use mathlib.Core.Path.{sym, ◌∙◌}
+use Rattle.model.specs.Lists.{entries, sum}
 use Rattle.model.specs.Rules.{tidy}
 use Rattle.entries.proofs.Part.{as_table, as_pairs, at_sorted, at_early}
-use Rattle.tables.proofs.sum.Reads as sum-reads'
 use Rattle.entries.proofs.sum.Goals as goal
 
 pub sum-requires : goal.sum-requires

@@ -1,10 +1,7 @@
 -- `are_disjoint`: at each turn nothing meets the pieces before i, so that what is left to say is of those from i on.
 use Prim.Native.Nat.{◌-◌, ◌≤◌}
-use mathlib.Core.Path.{◌≡◌, refl, sym, ◌∙◌}
-use native.Mathlib.Omega.{arith}
-use borrow.Author.Rules.{rules}
-use lib.ListN.{length}
-use Rattle.filling.proofs.Apart.{apart_from, apart_end, meets_piece, meets_reserved, meets_none}
+use mathlib.Core.Path.{◌≡◌}
+use Rattle.filling.proofs.Apart.{apart_from}
 use Rattle.filling.proofs.are_disjoint.Given as goal
 
 abbrev pub invariant-loop-i : goal.invariant-loop-i

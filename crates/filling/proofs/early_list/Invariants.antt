@@ -1,9 +1,8 @@
 -- `early_list`: at each turn the first i ranges are in the first i slots.
 use Prim.Native.Nat.{◌-◌, ◌≤◌}
 use mathlib.Core.Path.{◌≡◌}
-use native.Mathlib.Omega.{arith}
 use Rattle.model.specs.Store.{early_of}
-use Rattle.filling.proofs.Slots.{filled_to, filled_start, filled_next, filled_end}
+use Rattle.filling.proofs.Slots.{filled_to}
 use Rattle.filling.proofs.early_list.Given as goal
 
 abbrev pub invariant-loop-i : goal.invariant-loop-i

@@ -1,5 +1,4 @@
 -- `fill_lists`: the pieces twice, and the reserved areas twice.
-use borrow.Author.Rules.{rules}
 use Rattle.model.specs.Store.{record_of, early_in, length_in}
 use Rattle.filling.specs.Filled.{filled_record}
 use Rattle.filling.proofs.fill_lists.Goals as goal

@@ -1,8 +1,8 @@
 -- `meets_from`: at each turn none of the ranges before i meets the range.
 use Prim.Native.Nat.{◌-◌}
-use mathlib.Core.Path.{◌≡◌, refl, sym, ◌∙◌}
+use mathlib.Core.Path.{sym, ◌∙◌}
 use native.Mathlib.Omega.{arith}
-use Rattle.filling.proofs.Apart.{meets_from, meets_here, meets_later, meets_end}
+use Rattle.filling.proofs.Apart.{meets_here, meets_later, meets_end}
 use Rattle.filling.proofs.meets_from.Goals as goal
 
 pub returns-then-meet : goal.returns-then-meet

@@ -1,8 +1,7 @@
 -- `meets_from`: at each turn none of the ranges before i meets the range.
 use Prim.Native.Nat.{◌-◌}
-use mathlib.Core.Path.{◌≡◌, refl, sym, ◌∙◌}
-use native.Mathlib.Omega.{arith}
-use Rattle.filling.proofs.Apart.{meets_from, meets_here, meets_later, meets_end}
+use mathlib.Core.Path.{◌≡◌}
+use Rattle.filling.proofs.Apart.{meets_from}
 use Rattle.filling.proofs.meets_from.Given as goal
 
 abbrev pub invariant-loop-i : goal.invariant-loop-i

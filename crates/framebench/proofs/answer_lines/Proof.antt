@@ -1,5 +1,5 @@
 -- `answer_lines` takes each line once, and every line leaves the bench ready for the next.
-use Prim.Native.Nat.{◌-◌, ◌≤◌, ◌<◌}
+use Prim.Native.Nat.{◌-◌, ◌≤◌}
 use mathlib.Core.Path.{◌≡◌, refl}
 use lib.ListN.{length, take, length-take}
 use Rattle.bench_answers.specs.Replies.{Ready, state_of}

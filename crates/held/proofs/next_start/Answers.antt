@@ -1,6 +1,5 @@
 -- `next_start`: the first word of the pair at j.
 use Rattle.held.proofs.Steps.{a_chunk, no_chunk}
-use borrow.Author.Rules.{rules}
 use Rattle.held.proofs.next_start.Goals as goal
 
 pub returns-then-j-chunks_len : goal.returns-then-j-chunks_len

@@ -3,7 +3,6 @@ use native.Mathlib.Omega.{arith}
 use mathlib.Core.Path.{sym, ◌∙◌}
 use lib.ListN.{length-set}
 use Rattle.held.proofs.Steps.{some_run, put_nothing, put_joined, put_new}
-use borrow.Author.Rules.{rules}
 use Rattle.held.proofs.put_frames.Goals as goal
 
 pub returns-then-to-from : goal.returns-then-to-from

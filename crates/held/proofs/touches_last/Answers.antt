@@ -1,6 +1,5 @@
 -- `touches_last`: the last word of the last pair.
 use Rattle.held.proofs.Steps.{no_run, no_frame, last_run}
-use borrow.Author.Rules.{rules}
 use Rattle.held.proofs.touches_last.Goals as goal
 
 pub returns-then-runs-eq0 : goal.returns-then-runs-eq0

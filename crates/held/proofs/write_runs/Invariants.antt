@@ -1,11 +1,6 @@
 -- `write_runs`: at each turn a region is done with, or a chunk.
-use Prim.Native.Nat.{ℕ, ◌+◌, ◌-◌}
-use native.Mathlib.Omega.{arith}
-use mathlib.Core.Path.{sym, subst, ◌∙◌}
-use Rattle.tables.proofs.Search.{pair_at}
-use Rattle.tables.proofs.Sums.{tidy_pair}
-use Rattle.held.specs.Runs.{put_count, put_words}
-use Rattle.held.proofs.Walk.{Walked, walk_start, walk_ends, walk_length, walk_room, chunk_there, chunk_above, region_done, chunk_done}
+use Prim.Native.Nat.{◌+◌, ◌-◌}
+use Rattle.held.proofs.Walk.{Walked}
 use Rattle.held.proofs.write_runs.Given as goal
 
 abbrev pub invariant-loop-i : goal.invariant-loop-i

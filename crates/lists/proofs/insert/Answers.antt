@@ -9,7 +9,6 @@ use Rattle.model.specs.Store.{table_slots}
 use Rattle.model.proofs.Stored.{table_length}
 use Rattle.tables.proofs.Search.{length_inserted}
 use Rattle.tables.proofs.Table.{table_inserted}
-use borrow.Author.Rules.{rules}
 use Rattle.lists.proofs.One.{as_table, as_early, at_sorted, room, sorted_after, early_after}
 use Rattle.lists.proofs.insert.Goals as goal
 

@@ -1,7 +1,6 @@
 -- `lists::meets`: by the table, or by every slot.
 use native.Mathlib.Omega.{arith}
 use mathlib.Core.Path.{sym, ◌∙◌}
-use borrow.Author.Rules.{rules}
 use Rattle.memory_structs.specs.Range.{range}
 use Rattle.model.specs.Lists.{entries}
 use Rattle.model.specs.Rules.{tidy}

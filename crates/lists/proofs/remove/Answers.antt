@@ -6,7 +6,6 @@ use Prim.Native.Nat.{ℕ, ◌+◌, ◌-◌, ◌≤◌, ◌<◌}
 use Rattle.model.specs.Lists.{remove}
 use Rattle.model.specs.Store.{early_of, slots_of}
 use Rattle.model.proofs.Stored.{table_length}
-use borrow.Author.Rules.{rules}
 use Rattle.lists.proofs.One.{as_table, as_early, sorted_length, early_length, length_removed, sorted_after, early_after}
 use Rattle.lists.proofs.remove.Goals as goal
 

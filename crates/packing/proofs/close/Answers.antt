@@ -1,11 +1,10 @@
 -- `close`: the header, and the slots where they are to be written, array by array.
-use mathlib.Core.Path.{◌≡◌, refl, sym, ◌∙◌}
+use mathlib.Core.Path.{◌≡◌, sym, ◌∙◌}
 use mathlib.Core.Bool.{false, ◌&&◌}
 use Rattle.model.specs.Store.{early_of}
 use Rattle.early.proofs.Slots.{array_sizes}
 use Rattle.packing.specs.Packed.{Unpackable}
 use Rattle.packing.proofs.Closing.{to_unpack, slots_written, slots_kept}
-use borrow.Author.Rules.{rules}
 use native.Mathlib.Omega.{arith}
 use Rattle.packing.proofs.close.Goals as goal
 

@@ -1,5 +1,4 @@
 -- `pack`: four lists, one after the other.
-use mathlib.Core.Path.{◌≡◌, refl, sym, ap, ◌∙◌}
 use Rattle.early.proofs.Slots.{array_sizes}
 use Rattle.packing.proofs.Turns.{pack_all}
 use borrow.Author.Rules.{rules}

@@ -1,8 +1,8 @@
 -- `pack_list`: at each turn the first i pairs are written.
-use mathlib.Core.Path.{◌≡◌, refl, sym, ap, ◌∙◌}
-use Prim.Native.Nat.{◌-◌, ◌*◌, ◌≤◌}
-use lib.ListN.{length, length-set}
-use Rattle.packing.proofs.Turns.{packed_to, pack_start, pack_turn, pack_end}
+use mathlib.Core.Path.{sym, ◌∙◌}
+use Prim.Native.Nat.{◌-◌}
+use lib.ListN.{length-set}
+use Rattle.packing.proofs.Turns.{pack_start, pack_turn, pack_end}
 use native.Mathlib.Omega.{arith}
 use Rattle.packing.proofs.pack_list.Goals as goal
 

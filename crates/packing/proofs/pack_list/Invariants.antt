@@ -1,9 +1,8 @@
 -- `pack_list`: at each turn the first i pairs are written.
-use mathlib.Core.Path.{◌≡◌, refl, sym, ap, ◌∙◌}
-use Prim.Native.Nat.{◌-◌, ◌*◌, ◌≤◌}
-use lib.ListN.{length, length-set}
-use Rattle.packing.proofs.Turns.{packed_to, pack_start, pack_turn, pack_end}
-use native.Mathlib.Omega.{arith}
+use mathlib.Core.Path.{◌≡◌}
+use Prim.Native.Nat.{◌-◌, ◌≤◌}
+use lib.ListN.{length}
+use Rattle.packing.proofs.Turns.{packed_to}
 use Rattle.packing.proofs.pack_list.Given as goal
 
 abbrev pub invariant-loop-i : goal.invariant-loop-i

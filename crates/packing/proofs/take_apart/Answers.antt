@@ -1,7 +1,6 @@
 -- `take_apart`: the header, and in early form the slots.
 use mathlib.Core.Path.{sym, ◌∙◌}
 use mathlib.Core.Bool.{true≢false}
-use borrow.Author.Rules.{rules}
 use Rattle.packing.proofs.take_apart.Goals as goal
 
 pub returns-then-a : goal.returns-then-a

@@ -1,10 +1,8 @@
 -- `unpack_ends`: at each turn the first i are written.
-use mathlib.Core.Path.{◌≡◌, refl}
+use mathlib.Core.Path.{◌≡◌}
 use Prim.Native.Nat.{◌-◌, ◌≤◌}
-use lib.ListN.{length, take, length-set}
+use lib.ListN.{length, take}
 use Rattle.packing.specs.Packed.{ends_of}
-use Rattle.packing.proofs.Turns.{fill_turn, fill_end, end_is, ends_length}
-use native.Mathlib.Omega.{arith}
 use Rattle.packing.proofs.unpack_ends.Given as goal
 
 abbrev pub invariant-loop-i : goal.invariant-loop-i

@@ -1,8 +1,8 @@
 -- `unpack_flags`: at each turn the first i are written.
-use mathlib.Core.Path.{◌≡◌, refl}
+use mathlib.Core.Path.{refl}
 use mathlib.Core.Bool.{false}
-use Prim.Native.Nat.{◌-◌, ◌≤◌}
-use lib.ListN.{length, take, length-set}
+use Prim.Native.Nat.{◌-◌}
+use lib.ListN.{length-set}
 use Rattle.packing.specs.Packed.{flags_of}
 use Rattle.packing.proofs.Turns.{fill_turn, fill_end, flag_is, flags_length}
 use native.Mathlib.Omega.{arith}

@@ -1,11 +1,8 @@
 -- `unpack_flags`: at each turn the first i are written.
-use mathlib.Core.Path.{◌≡◌, refl}
-use mathlib.Core.Bool.{false}
+use mathlib.Core.Path.{◌≡◌}
 use Prim.Native.Nat.{◌-◌, ◌≤◌}
-use lib.ListN.{length, take, length-set}
+use lib.ListN.{length, take}
 use Rattle.packing.specs.Packed.{flags_of}
-use Rattle.packing.proofs.Turns.{fill_turn, fill_end, flag_is, flags_length}
-use native.Mathlib.Omega.{arith}
 use Rattle.packing.proofs.unpack_flags.Given as goal
 
 abbrev pub invariant-loop-i : goal.invariant-loop-i

@@ -1,7 +1,7 @@
 -- `unpack_starts`: at each turn the first i are written.
-use mathlib.Core.Path.{◌≡◌, refl}
-use Prim.Native.Nat.{◌-◌, ◌≤◌}
-use lib.ListN.{length, take, length-set}
+use mathlib.Core.Path.{refl}
+use Prim.Native.Nat.{◌-◌}
+use lib.ListN.{length-set}
 use Rattle.packing.specs.Packed.{starts_of}
 use Rattle.packing.proofs.Turns.{fill_turn, fill_end, start_is, starts_length}
 use native.Mathlib.Omega.{arith}

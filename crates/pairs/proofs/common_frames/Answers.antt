@@ -2,7 +2,6 @@
 use Prim.Native.Nat.{◌≤◌}
 use Rattle.memory_structs.specs.Range.{top}
 use native.Mathlib.Omega.{arith}
-use borrow.Author.Rules.{rules}
 use Rattle.pairs.proofs.common_frames.Goals as goal
 
 pub overflow_add-result : goal.overflow_add-result

@@ -1,12 +1,9 @@
 -- `contains_any`: at each turn none of the slots before i meets the range.
-use mathlib.Core.Path.{◌≡◌, refl, sym, ap, ◌∙◌}
-use mathlib.Core.Bool.{Bool, ◌||◌}
-use Prim.Native.Nat.{◌+◌, ◌-◌, ◌≤◌}
+use mathlib.Core.Path.{◌≡◌}
+use Prim.Native.Nat.{◌-◌, ◌≤◌}
 use Rattle.memory_structs.specs.Range.{range, meets}
 use Rattle.model.specs.Lists.{any_of}
-use borrow.Author.Rules.{rules}
-use Rattle.pairs.proofs.Turns.{left, any_turn, none_left}
-use native.Mathlib.Omega.{arith}
+use Rattle.pairs.proofs.Turns.{left}
 use Rattle.pairs.proofs.contains_any.Given as goal
 
 abbrev pub invariant-loop-i : goal.invariant-loop-i

@@ -1,10 +1,8 @@
 -- `count`: at each turn n of the first i slots are used.
-use mathlib.Core.Path.{◌≡◌, refl, sym, ap, ◌∙◌}
-use mathlib.Core.Logic.{⊎_elim}
+use mathlib.Core.Path.{◌≡◌}
 use Prim.Native.Nat.{◌+◌, ◌-◌, ◌≤◌}
 use lib.ListN.{length}
-use Rattle.pairs.proofs.Turns.{left, one_used, none_used_holds, none_left}
-use native.Mathlib.Omega.{arith}
+use Rattle.pairs.proofs.Turns.{left}
 use Rattle.pairs.proofs.count.Given as goal
 
 abbrev pub invariant-loop-i : goal.invariant-loop-i

@@ -1,11 +1,10 @@
 -- `covers`: slots that have no frame twice have every frame of the range where they have as many.
-use mathlib.Core.Path.{◌≡◌, refl, sym, ap, ◌∙◌}
+use mathlib.Core.Path.{ap, ◌∙◌}
 use Prim.Native.Nat.{ℕ, ◌-◌}
 use lib.Dec.{ltb}
 use Rattle.model.proofs.Ruled.{tidy_is}
 use Rattle.early.proofs.Covered.{counted}
 use Rattle.pairs.specs.Pairs.{pair_slots}
-use borrow.Author.Rules.{rules}
 use Rattle.pairs.proofs.covers.Goals as goal
 
 pub returns : goal.returns

@@ -1,5 +1,5 @@
 -- `empty_slot`: the two stores are the model's removal of one slot.
-use mathlib.Core.Path.{◌≡◌, refl, sym, ap, ◌∙◌}
+use mathlib.Core.Path.{sym, ap, ◌∙◌}
 use lib.ListN.{length-set}
 use Rattle.model.specs.Lists.{unused}
 use Rattle.model.specs.Store.{slot_words}
@@ -7,7 +7,6 @@ use Rattle.early.proofs.First.{remove_is}
 use Rattle.pairs.specs.Pairs.{pair_slots}
 use Rattle.pairs.proofs.Slots.{put, pairs_length}
 use native.Mathlib.Omega.{arith}
-use borrow.Author.Rules.{rules}
 use Rattle.pairs.proofs.empty_slot.Goals as goal
 
 pub bounds-t-i-2 : goal.bounds-t-i-2

@@ -4,7 +4,6 @@ use Rattle.memory_structs.specs.Range.{range}
 use Rattle.model.specs.Lists.{used}
 use Rattle.pairs.proofs.Slots.{put}
 use native.Mathlib.Omega.{arith}
-use borrow.Author.Rules.{rules}
 use Rattle.pairs.proofs.fill.Goals as goal
 
 pub bounds-t-i-2 : goal.bounds-t-i-2

@@ -1,9 +1,6 @@
 -- `first_wanted`: at each turn none of the first i slots is wanted.
-use mathlib.Core.Path.{◌≡◌, refl, sym, ap, ◌∙◌}
-use Prim.Native.Nat.{◌-◌, ◌≤◌}
-use lib.ListN.{drop}
-use borrow.Author.Rules.{rules}
-use Rattle.early.proofs.First.{first_slot, onward, first_starts}
+use Prim.Native.Nat.{◌-◌}
+use Rattle.early.proofs.First.{first_starts}
 use Rattle.pairs.specs.Pairs.{wants, pair_slots}
 use Rattle.pairs.proofs.Turns.{search_stops, search_passes, search_ends}
 use native.Mathlib.Omega.{arith}

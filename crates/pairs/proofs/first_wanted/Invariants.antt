@@ -1,12 +1,9 @@
 -- `first_wanted`: at each turn none of the first i slots is wanted.
-use mathlib.Core.Path.{◌≡◌, refl, sym, ap, ◌∙◌}
+use mathlib.Core.Path.{◌≡◌}
 use Prim.Native.Nat.{◌-◌, ◌≤◌}
 use lib.ListN.{drop}
-use borrow.Author.Rules.{rules}
-use Rattle.early.proofs.First.{first_slot, onward, first_starts}
+use Rattle.early.proofs.First.{first_slot, onward}
 use Rattle.pairs.specs.Pairs.{wants, pair_slots}
-use Rattle.pairs.proofs.Turns.{search_stops, search_passes, search_ends}
-use native.Mathlib.Omega.{arith}
 use Rattle.pairs.proofs.first_wanted.Given as goal
 
 abbrev pub invariant-loop-i : goal.invariant-loop-i

@@ -1,12 +1,9 @@
 -- `frames_in`: at each turn `total` frames of the range are in the first i slots.
-use mathlib.Core.Path.{◌≡◌, refl, sym, ap, ◌∙◌}
+use mathlib.Core.Path.{◌≡◌}
 use Prim.Native.Nat.{◌+◌, ◌-◌, ◌*◌, ◌≤◌}
 use Rattle.memory_structs.specs.Range.{range, top}
-use Rattle.model.proofs.Ruled.{tidy_is}
 use Rattle.early.specs.Slots.{frames_in}
-use Rattle.pairs.proofs.Slots.{pair_low}
-use Rattle.pairs.proofs.Turns.{left, frames_turn, none_left, few_common}
-use native.Mathlib.Omega.{arith}
+use Rattle.pairs.proofs.Turns.{left}
 use Rattle.pairs.proofs.frames_in.Given as goal
 
 abbrev pub invariant-loop-i : goal.invariant-loop-i

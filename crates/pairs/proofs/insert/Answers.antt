@@ -1,6 +1,6 @@
 -- `insert`: by where the first slot that is not used stands.
 use native.Mathlib.Omega.{arith}
-use mathlib.Core.Path.{◌≡◌, refl, sym, ap, ◌∙◌}
+use mathlib.Core.Path.{◌≡◌, sym, ap, ◌∙◌}
 use Rattle.memory_structs.specs.Range.{range}
 use Rattle.model.specs.declared.Place.TheVariants.{Nowhere, At}
 use Rattle.model.specs.Store.{slot_words}
@@ -8,7 +8,6 @@ use Rattle.early.specs.Slots.{first_unused}
 use Rattle.early.proofs.First.{insert_at_holds, insert_full, unused_bound}
 use Rattle.pairs.specs.Pairs.{pair_slots, first_of}
 use Rattle.pairs.proofs.Slots.{pairs_length}
-use borrow.Author.Rules.{rules}
 use Rattle.pairs.proofs.insert.Goals as goal
 
 pub fill-requires : goal.fill-requires

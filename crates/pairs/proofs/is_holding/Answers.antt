@@ -1,6 +1,6 @@
 -- `is_holding`: no unused slot does, and a used one by its ends.
 use native.Mathlib.Omega.{arith}
-use mathlib.Core.Path.{◌≡◌, refl, sym, ap, ◌∙◌}
+use mathlib.Core.Path.{sym, ap, ◌∙◌}
 use lib.Dec.{leb}
 use mathlib.Core.Bool.{Bool, ◌&&◌}
 use borrow.Author.Tests.{le-leb, lt-leb}

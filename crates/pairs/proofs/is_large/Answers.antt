@@ -1,12 +1,9 @@
 -- `is_large`: no unused slot is, and a used one by its size.
 use native.Mathlib.Omega.{arith}
-use mathlib.Core.Path.{◌≡◌, refl, sym, ap, ◌∙◌}
-use Rattle.memory_structs.specs.Range.{range}
-use Rattle.model.specs.Lists.{Slot}
+use mathlib.Core.Path.{sym, ap, ◌∙◌}
 use Rattle.pairs.specs.Pairs.{wants}
 use Rattle.pairs.specs.declared.Wanted.TheVariants.{Large}
 use Rattle.pairs.proofs.Slots.{pair_used, pair_unused}
-use borrow.Author.Rules.{rules}
 use Rattle.pairs.proofs.is_large.Goals as goal
 
 pub returns-then-end-start : goal.returns-then-end-start

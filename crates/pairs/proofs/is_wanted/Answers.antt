@@ -1,9 +1,8 @@
 -- `is_wanted`: each arm is its test.
-use mathlib.Core.Path.{◌≡◌, refl, sym, ap, ◌∙◌}
+use mathlib.Core.Path.{sym, ap, ◌∙◌}
 use Rattle.pairs.specs.declared.Wanted.{Wanted}
 use Rattle.pairs.specs.Pairs.{wants, pair_slot}
 use Rattle.pairs.proofs.Turns.{wants_unused}
-use borrow.Author.Rules.{rules}
 use Rattle.pairs.proofs.is_wanted.Goals as goal
 
 pub returns-in-Unused : goal.returns-in-Unused

@@ -1,9 +1,8 @@
 -- `sum`: every frame of the slots is at or below the top.
-use mathlib.Core.Path.{◌≡◌, refl, sym, ap, ◌∙◌}
+use mathlib.Core.Path.{◌∙◌}
 use Rattle.model.proofs.Ruled.{tidy_is}
 use Rattle.early.proofs.Covered.{counted_all}
 use Rattle.pairs.specs.Pairs.{pair_slots}
-use borrow.Author.Rules.{rules}
 use Rattle.pairs.proofs.sum.Goals as goal
 
 pub returns : goal.returns

@@ -6,7 +6,6 @@ use Rattle.model.specs.Lists.{entries}
 use Rattle.lists.proofs.Whole.{lent_fits}
 use Rattle.lists.proofs.Lent.{lent_list, lent_is}
 use Rattle.rules.proofs.Going.{stores}
-use borrow.Author.Rules.{rules}
 use Rattle.parts.proofs.count.Goals as goal
 
 pub overflow_add-from : goal.overflow_add-from

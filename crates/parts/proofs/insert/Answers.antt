@@ -13,7 +13,6 @@ use Rattle.lists.proofs.Whole.{tidy_list, lent_fits}
 use Rattle.lists.proofs.Lent.{lent_list, lent_has, lent_back}
 use Rattle.rules.proofs.Going.{stores, ruled}
 use Rattle.parts.proofs.Tidy.{tidy_slotted}
-use borrow.Author.Rules.{rules}
 use Rattle.parts.proofs.insert.Goals as goal
 
 pub overflow_add-from : goal.overflow_add-from

@@ -5,7 +5,6 @@ use Rattle.model.specs.Lists.{entries, sum}
 use Rattle.lists.proofs.Whole.{lent_fits}
 use Rattle.lists.proofs.Lent.{lent_list, lent_tidy, lent_is}
 use Rattle.rules.proofs.Going.{stores, ruled}
-use borrow.Author.Rules.{rules}
 use Rattle.parts.proofs.sum.Goals as goal
 
 pub overflow_add-from : goal.overflow_add-from

@@ -1,9 +1,6 @@
 -- `held_list`: refused by its buffer, by 3 or 11, or answered.
 use native.Mathlib.Omega.{arith}
-use mathlib.Core.Path.{subst}
-use Rattle.model.specs.Lists.{Lists}
 use Rattle.queries.proofs.Asked.{held_short, held_refused, held_going, passed, may_ask, asked_lists, listed_of}
-use borrow.Author.Rules.{rules}
 use Rattle.queries.proofs.held_list.Goals as goal
 
 pub returns-then-buffer-lt2048 : goal.returns-then-buffer-lt2048

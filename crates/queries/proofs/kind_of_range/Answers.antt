@@ -4,7 +4,6 @@ use Rattle.model.specs.Lists.{Lists}
 use Rattle.model.specs.Queries.{kind_of}
 use Rattle.model.specs.Calls.{kind_call, answer, short_buffer}
 use Rattle.queries.proofs.Asked.{answers_refused, answers_going, passed, may_ask, asked_lists}
-use borrow.Author.Rules.{rules}
 use Rattle.queries.proofs.kind_of_range.Goals as goal
 
 pub returns-then-opened-ne0 : goal.returns-then-opened-ne0

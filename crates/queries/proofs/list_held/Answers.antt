@@ -3,7 +3,6 @@ use mathlib.Core.Path.{sym, ap}
 use Rattle.entries.specs.Whole.{lists_in}
 use Rattle.queries.proofs.Asked.{listed_of}
 use Rattle.packing.proofs.Lending.{ruled_words, ruled_slots, lent_words, lent_slots}
-use borrow.Author.Rules.{rules}
 use Rattle.queries.proofs.list_held.Goals as goal
 
 pub held_list-requires : goal.held_list-requires

@@ -1,6 +1,6 @@
 -- `free_total`: the frames of the kind's free list, in its part.
 use Prim.Native.Nat.{ℕ, ◌+◌, ◌≤◌}
-use mathlib.Core.Path.{◌≡◌, ap, ◌∙◌}
+use mathlib.Core.Path.{ap, ◌∙◌}
 use mathlib.Core.List.{List}
 use lib.ListN.{length}
 use Rattle.model.specs.Lists.{Slot, entries, sum}
@@ -11,7 +11,6 @@ use Rattle.entries.proofs.Part.{width_bound}
 use Rattle.entries.proofs.Whole.{lent_fits, lent_part, lent_slots, lent_tidy}
 use Rattle.query_core.proofs.Asked.{total_is}
 use native.Mathlib.Omega.{arith}
-use borrow.Author.Rules.{rules}
 use Rattle.query_core.proofs.free_total.Goals as goal
 
 pub part_of-from-requires : goal.part_of-from-requires

@@ -2,7 +2,6 @@
 use Rattle.tables.proofs.Sums.{tidy_few}
 use Rattle.query_core.proofs.Forms.{part_size, sorted_long, early_long, regions_tidy, chunks_tidy, sorted_written, regions_in_order, chunks_in_order, early_written, is_listed}
 use native.Mathlib.Omega.{arith}
-use borrow.Author.Rules.{rules}
 use Rattle.query_core.proofs.held_list.Goals as goal
 
 pub slice_bounds-write_runs-end : goal.slice_bounds-write_runs-end

@@ -5,7 +5,6 @@ use borrow.Author.Tests.{ltb-false}
 use Rattle.memory_structs.specs.Range.{above_top}
 use Rattle.entries.specs.Whole.{lists_in, slots_at}
 use Rattle.query_core.proofs.Asked.{kind_above, kind_empty, kind_reserved, kind_general}
-use borrow.Author.Rules.{rules}
 use Rattle.query_core.proofs.kind.Goals as goal
 
 pub returns-then-is_above_top : goal.returns-then-is_above_top

@@ -1,11 +1,10 @@
 -- `write_from_pairs`: the walk over the slots in order.
 use native.Mathlib.Omega.{arith}
-use mathlib.Core.Path.{◌≡◌, ap, ◌∙◌}
+use mathlib.Core.Path.{ap, ◌∙◌}
 use mathlib.Core.Bool.{true}
 use Rattle.model.specs.Rules.{tidy}
 use Rattle.pair_sorting.proofs.Sorting.{ordered_few, ordered_slots}
 use Rattle.query_core.proofs.Forms.{two_same}
-use borrow.Author.Rules.{rules}
 use Rattle.query_core.proofs.write_from_pairs.Goals as goal
 
 pub write_runs-requires : goal.write_runs-requires

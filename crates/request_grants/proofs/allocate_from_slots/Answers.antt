@@ -2,7 +2,6 @@
 use native.Mathlib.Omega.{arith}
 use Rattle.pairs.proofs.Slots.{pairs_length}
 use Rattle.request_grants.proofs.Slots.{pairs_emptied, pairs_before, all_steps}
-use borrow.Author.Rules.{rules}
 use Rattle.request_grants.proofs.allocate_from_slots.Goals as goal
 
 pub empty_slot-requires : goal.empty_slot-requires

@@ -2,12 +2,9 @@
 use native.Mathlib.Omega.{arith}
 use Prim.Native.Nat.{◌+◌, ◌≤◌, ◌<◌}
 use mathlib.Core.Path.{◌≡◌, sym}
-use mathlib.Core.List.{List}
-use Rattle.model.specs.Lists.{Slot}
 use Rattle.model.specs.Store.{table_slots}
 use Rattle.model.proofs.Stored.{table_length}
 use Rattle.tables.proofs.Spaced.{Spaced, tidy_spaced}
-use borrow.Author.Rules.{rules}
 use Rattle.request_grants.proofs.Entries.{room_for_two}
 use Rattle.request_grants.proofs.Grant.{grant_none, grant_before, grant_after, grant_both}
 use Rattle.request_grants.proofs.Rewritten.{all_removed, left_instead}

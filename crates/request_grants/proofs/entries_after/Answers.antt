@@ -1,13 +1,11 @@
 -- `entries_after`: the entries less the chosen ones, and one for each part that is left.
 use native.Mathlib.Omega.{arith}
-use Prim.Native.Nat.{ℕ, ◌+◌, ◌-◌, ◌≤◌}
+use Prim.Native.Nat.{◌+◌, ◌-◌, ◌≤◌}
 use mathlib.Core.Path.{◌≡◌}
-use mathlib.Core.Logic.{⊎_elim}
 use lib.ListN.{length}
 use Rattle.model.specs.Lists.{entries}
 use Rattle.entries.specs.Part.{slots_in}
 use Rattle.entries.proofs.Part.{part_storable}
-use borrow.Author.Rules.{rules}
 use Rattle.request_grants.specs.Grants.{entries_left}
 use Rattle.request_grants.proofs.Entries.{leftover, one_leftover, no_leftover, leftover_bound, taken_out, left_is}
 use Rattle.request_grants.proofs.Kept.{few_entries}

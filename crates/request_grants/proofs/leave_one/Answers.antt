@@ -1,7 +1,6 @@
 -- `leave_one`: the first pair is rewritten, the others are taken out.
 use native.Mathlib.Omega.{arith}
 use Rattle.memory_structs.specs.Range.{range}
-use borrow.Author.Rules.{rules}
 use Rattle.request_grants.proofs.Rewritten.{rewritten_table, one_left, others_removed}
 use Rattle.request_grants.proofs.leave_one.Goals as goal
 

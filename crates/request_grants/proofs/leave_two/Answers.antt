@@ -5,7 +5,6 @@ use Prim.Native.Nat.{◌+◌, ◌-◌}
 use Rattle.memory_structs.specs.Range.{range}
 use Rattle.model.proofs.Stored.{table_length}
 use Rattle.tables.proofs.Table.{table_inserted}
-use borrow.Author.Rules.{rules}
 use Rattle.request_grants.proofs.Rewritten.{rewritten_table, then_left, still_rising, put_after_holds}
 use Rattle.request_grants.proofs.leave_two.Goals as goal
 

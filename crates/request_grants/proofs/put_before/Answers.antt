@@ -6,7 +6,6 @@ use Rattle.model.specs.Lists.{insert}
 use Rattle.model.specs.Store.{slot_words}
 use Rattle.pairs.specs.Pairs.{pair_slots}
 use Rattle.request_grants.proofs.Grant.{some_before, none_before}
-use borrow.Author.Rules.{rules}
 use Rattle.request_grants.proofs.put_before.Goals as goal
 
 pub returns-then-chosen-asked : goal.returns-then-chosen-asked

@@ -3,7 +3,6 @@ use Prim.Native.Nat.{◌≤◌, ◌<◌}
 use native.Mathlib.Omega.{arith}
 use Rattle.model.specs.Lists.{bound}
 use Rattle.entries.specs.Part.{slots_in}
-use borrow.Author.Rules.{rules}
 use Rattle.request_grants.specs.Grants.{entries_left}
 use Rattle.request_grants.proofs.Placed.{without_place, with_place}
 use Rattle.request_grants.proofs.take.Goals as goal

@@ -11,7 +11,6 @@ use Rattle.entries.proofs.Whole.{lent_fits, lent_part, lent_slots, lent_tidy}
 use Rattle.request_growth.proofs.Growing.{tidy_slotted, lent_changed}
 use Rattle.entries.proofs.Part.{width_bound}
 use native.Mathlib.Omega.{arith}
-use borrow.Author.Rules.{rules}
 use Rattle.request_growth.proofs.add_reserved_region_to_lists.Goals as goal
 
 pub part_of-from-requires : goal.part_of-from-requires

@@ -8,7 +8,6 @@ use Rattle.entries.proofs.Whole.{lent_fits, lent_part, lent_slots}
 use Rattle.request_taking.specs.Takes.{one_chunk}
 use Rattle.entries.proofs.Part.{width_bound}
 use native.Mathlib.Omega.{arith}
-use borrow.Author.Rules.{rules}
 use Rattle.request_growth.proofs.chunk_at.Goals as goal
 
 pub part_of-from-requires : goal.part_of-from-requires

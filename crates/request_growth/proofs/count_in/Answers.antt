@@ -6,7 +6,6 @@ use Rattle.model.specs.Lists.{Slot, entries}
 use Rattle.entries.proofs.Whole.{lent_fits, lent_part, lent_slots}
 use Rattle.entries.proofs.Part.{width_bound}
 use native.Mathlib.Omega.{arith}
-use borrow.Author.Rules.{rules}
 use Rattle.request_growth.proofs.count_in.Goals as goal
 
 pub part_of-from-requires : goal.part_of-from-requires

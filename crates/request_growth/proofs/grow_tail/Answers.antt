@@ -6,7 +6,6 @@ use Rattle.entries.proofs.Whole.{does_refuse}
 use Rattle.request_growth.proofs.Tail.{LastChunk}
 use Rattle.request_growth.proofs.Growing.{Open, open_growth, grow_refused}
 use Rattle.request_growth.proofs.Cut.{tail_filled, some_chunk, has_last, last_is, cut_chooses, cut_fits, cut_ruled, cut_room, tail_done}
-use borrow.Author.Rules.{rules}
 use Rattle.request_growth.proofs.grow_tail.Goals as goal
 
 pub growth_refusal-number-requires : goal.growth_refusal-number-requires

@@ -4,7 +4,6 @@ use Rattle.entries.specs.Whole.{lists_in}
 use Rattle.entries.proofs.Whole.{does_refuse}
 use Rattle.request_taking.proofs.Taken.{does_grant}
 use Rattle.request_growth.proofs.Growing.{Open, open_growth, grow_refused, room_regions_holds, whole_growth, tidy_chunks}
-use borrow.Author.Rules.{rules}
 use Rattle.request_growth.proofs.grow_whole.Goals as goal
 
 pub returns-then-number-ne0 : goal.returns-then-number-ne0

@@ -2,7 +2,6 @@
 use mathlib.Core.Path.{sym, ◌∙◌}
 use Rattle.entries.specs.Whole.{slots_at}
 use Rattle.request_growth.proofs.Growing.{thirteen, sixteen, eighteen, no_number}
-use borrow.Author.Rules.{rules}
 use Rattle.request_growth.proofs.growth_refusal.Goals as goal
 
 pub returns-then-meets_in : goal.returns-then-meets_in

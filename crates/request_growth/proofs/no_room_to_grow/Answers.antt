@@ -4,7 +4,6 @@ use mathlib.Core.Path.{ap, ◌∙◌}
 use lib.Dec.{leb}
 use Rattle.entries.specs.Whole.{lists_in, slots_at}
 use Rattle.request_growth.proofs.Growing.{full_regions, room_sorted, room_early}
-use borrow.Author.Rules.{rules}
 use Rattle.request_growth.proofs.no_room_to_grow.Goals as goal
 
 pub returns-then-bound-regions : goal.returns-then-bound-regions

@@ -9,7 +9,6 @@ use Rattle.request_grants.specs.Grants.{Chooses, grant_of, entries_left}
 use Rattle.request_growth.proofs.Growing.{lent_changed}
 use Rattle.entries.proofs.Part.{width_bound}
 use native.Mathlib.Omega.{arith}
-use borrow.Author.Rules.{rules}
 use Rattle.request_growth.proofs.take_out.Goals as goal
 
 pub part_of-from-requires : goal.part_of-from-requires

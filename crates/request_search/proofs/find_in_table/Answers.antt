@@ -1,5 +1,5 @@
 -- `find_in_table`: from the highest pair that starts at or below the request.
-use mathlib.Core.Path.{◌≡◌, sym, ap, ◌∙◌}
+use mathlib.Core.Path.{◌≡◌, sym, ◌∙◌}
 use lib.Dec.{leb}
 use Rattle.memory_structs.specs.Range.{range}
 use Rattle.memory_structs.specs.declared.range.FrameRange.{FrameRange}
@@ -9,7 +9,6 @@ use Rattle.model.specs.Store.{table_slots}
 use Rattle.tables.proofs.Touching.{pair_bound}
 use Rattle.request_search.specs.Searches.{found_of}
 use Rattle.request_search.proofs.Table.{found_in, nothing_below}
-use borrow.Author.Rules.{rules}
 use Rattle.request_search.proofs.find_in_table.Goals as goal
 
 pub highest_at_or_below-requires : goal.highest_at_or_below-requires

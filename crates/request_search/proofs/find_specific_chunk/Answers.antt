@@ -13,7 +13,6 @@ use Rattle.pairs.proofs.Slots.{pairs_length, range_at_holds}
 use Rattle.entries.proofs.Part.{as_table, as_pairs, at_sorted, at_early}
 use Rattle.request_search.specs.Searches.{found_of}
 use Rattle.request_search.proofs.Early.{first_bound, slot_holds, none_holds}
-use borrow.Author.Rules.{rules}
 use Rattle.request_search.proofs.find_specific_chunk.Goals as goal
 
 pub find_in_table-requires : goal.find_in_table-requires

@@ -4,7 +4,6 @@ use mathlib.Core.Path.{◌∙◌}
 use Rattle.memory_structs.specs.Range.{range}
 use Rattle.request_search.specs.Searches.{found_of}
 use Rattle.request_search.proofs.Table.{below, holds_all, holds_first}
-use borrow.Author.Rules.{rules}
 use Rattle.request_search.proofs.from_chunk.Goals as goal
 
 pub returns-then-chunk_end-start : goal.returns-then-chunk_end-start

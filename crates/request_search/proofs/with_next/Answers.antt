@@ -3,7 +3,6 @@ use native.Mathlib.Omega.{arith}
 use Rattle.memory_structs.specs.Range.{range}
 use Rattle.request_search.specs.Searches.{found_of}
 use Rattle.request_search.proofs.Table.{none_next, gap_next, short_next, both_next}
-use borrow.Author.Rules.{rules}
 use Rattle.request_search.proofs.with_next.Goals as goal
 
 pub returns-then-len-next : goal.returns-then-len-next

@@ -7,7 +7,6 @@ use mathlib.Core.List.{List}
 use Rattle.entries.proofs.Part.{width_bound}
 use Rattle.entries.proofs.Whole.{lent_fits, lent_part, lent_slots, lent_tidy}
 use native.Mathlib.Omega.{arith}
-use borrow.Author.Rules.{rules}
 use Rattle.request_taking.proofs.find_in.Goals as goal
 
 pub part_of-from-requires : goal.part_of-from-requires

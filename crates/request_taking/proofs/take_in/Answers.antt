@@ -6,7 +6,6 @@ use Rattle.entries.proofs.Whole.{lent_fits, lent_part, lent_tidy}
 use Rattle.request_taking.specs.Takes.{granted_with}
 use Rattle.request_taking.proofs.Taken.{lent_chooses, does_not_take, does_take}
 use native.Mathlib.Omega.{arith}
-use borrow.Author.Rules.{rules}
 use Rattle.request_taking.proofs.take_in.Goals as goal
 
 pub part_of-from-requires : goal.part_of-from-requires

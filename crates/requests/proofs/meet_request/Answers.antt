@@ -5,7 +5,6 @@ use Rattle.entries.specs.Whole.{lists_in}
 use Rattle.entries.proofs.Whole.{does_as}
 use Rattle.requests.specs.Asked.{call_of}
 use Rattle.requests.specs.declared.Request.{Request}
-use borrow.Author.Rules.{rules}
 use Rattle.requests.proofs.meet_request.Goals as goal
 
 pub returns-in-Frames : goal.returns-in-Frames

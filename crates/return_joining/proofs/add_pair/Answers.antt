@@ -1,5 +1,5 @@
 -- `add_pair`: one pair more, or no place for it.
-use Prim.Native.Nat.{◌+◌, ◌<◌, ◌≤◌}
+use Prim.Native.Nat.{◌+◌, ◌<◌}
 use native.Mathlib.Omega.{arith}
 use mathlib.Core.Path.{◌∙◌}
 use Rattle.memory_structs.specs.Range.{range}
@@ -9,7 +9,6 @@ use Rattle.model.proofs.Stored.{table_length}
 use Rattle.tables.proofs.Search.{length_inserted}
 use Rattle.tables.proofs.Table.{table_inserted}
 use Rattle.tables.proofs.Touching.{tidy_rising}
-use borrow.Author.Rules.{rules}
 use Rattle.return_joining.proofs.Rejoined.{table_full, table_room, table_goes, table_stays}
 use Rattle.return_joining.proofs.add_pair.Goals as goal
 

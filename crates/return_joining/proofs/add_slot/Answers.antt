@@ -2,7 +2,6 @@
 use native.Mathlib.Omega.{arith}
 use Rattle.memory_structs.specs.Range.{range}
 use Rattle.return_joining.proofs.Rejoined.{slots_full, slot_added}
-use borrow.Author.Rules.{rules}
 use Rattle.return_joining.proofs.add_slot.Goals as goal
 
 pub returns-then-count-ge32 : goal.returns-then-count-ge32

@@ -1,9 +1,8 @@
 -- `give_back`: by the form.
-use mathlib.Core.Path.{◌≡◌, refl, sym, ap, ◌∙◌}
+use mathlib.Core.Path.{sym, ◌∙◌}
 use Rattle.model.specs.Rules.{tidy}
 use Rattle.entries.proofs.Part.{as_table, as_pairs, at_sorted}
 use Rattle.return_joining.proofs.Rejoined.{by_table, by_slots}
-use borrow.Author.Rules.{rules}
 use Rattle.return_joining.proofs.give_back.Goals as goal
 
 pub rejoin_table-requires : goal.rejoin_table-requires

@@ -10,7 +10,6 @@ use Rattle.model.specs.Lists.{first_where, range_at}
 use Rattle.model.specs.declared.Place.TheVariants.{Nowhere, At}
 use Rattle.model.specs.Store.{table_slots}
 use Rattle.tables.proofs.Search.{range_at_holds}
-use borrow.Author.Rules.{rules}
 use Rattle.return_joining.proofs.Rejoined.{found_pair, found_above, found_under, found_neither, joined}
 use Rattle.return_joining.proofs.rejoin_table.Goals as goal
 

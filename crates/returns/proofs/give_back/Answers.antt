@@ -7,7 +7,6 @@ use borrow.Author.Tests.{ltb-false}
 use Rattle.memory_structs.specs.Range.{is_empty, above_top, top}
 use Rattle.entries.specs.Whole.{lists_in, slots_at}
 use Rattle.entries.proofs.Whole.{does_refuse, does_leave, does_as}
-use borrow.Author.Rules.{rules}
 use Rattle.returns.specs.Given.{any_free}
 use Rattle.returns.proofs.Giving.{nothing_given, above_top_holds, free_before, in_general_holds, in_reserved_holds, in_neither}
 use Rattle.returns.proofs.give_back.Goals as goal

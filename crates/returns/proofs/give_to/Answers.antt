@@ -1,10 +1,9 @@
 -- `give_to`: the return to the list, in its own part, put back.
-use mathlib.Core.Path.{◌≡◌, refl, sym, ap, subst, ◌∙◌}
+use mathlib.Core.Path.{◌≡◌, sym, ap, ◌∙◌}
 use mathlib.Core.Bool.{not}
 use mathlib.Core.List.{List}
 use borrow.Author.Tests.{not-true, not-false}
 use Rattle.memory_structs.specs.Range.{range}
-use Rattle.memory_structs.specs.declared.range.FrameRange.{FrameRange}
 use Rattle.model.specs.Lists.{Slot}
 use Rattle.model.specs.Returns.{no_place}
 use Rattle.entries.specs.Whole.{lists_in, slots_at, accepted_with}
@@ -12,7 +11,6 @@ use Rattle.entries.proofs.Part.{width_bound}
 use Rattle.entries.proofs.Whole.{lent_fits, lent_part, lent_slots, lent_tidy}
 use Rattle.returns.proofs.Giving.{lent_stored, no_place_holds, a_place}
 use native.Mathlib.Omega.{arith}
-use borrow.Author.Rules.{rules}
 use Rattle.returns.proofs.give_to.Goals as goal
 
 pub part_of-from-requires : goal.part_of-from-requires

@@ -2,7 +2,6 @@
 use Rattle.memory_structs.specs.Range.{range}
 use Rattle.entries.specs.Whole.{lists_in, slots_at}
 use Rattle.returns.proofs.Giving.{general_free, reserved_free}
-use borrow.Author.Rules.{rules}
 use Rattle.returns.proofs.is_any_free.Goals as goal
 
 pub returns-then-meets_in : goal.returns-then-meets_in

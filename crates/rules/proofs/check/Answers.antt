@@ -1,8 +1,6 @@
 -- `check`: the length, each list, then the lists beside one another.
 use mathlib.Core.Path.{sym, ◌∙◌}
-use mathlib.Core.Logic.{⊎_elim}
 use Rattle.rules.proofs.Numbers.{short_words, rules_kept, list_broken, lists_disagree}
-use borrow.Author.Rules.{rules}
 use Rattle.rules.proofs.check.Goals as goal
 use Rattle.rules.proofs.check.Goals.{else-each_keeps-via-then-each_keeps+else-lists_agree, else-each_keeps-via-else-each_keeps}
 

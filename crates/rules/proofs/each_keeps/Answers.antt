@@ -1,6 +1,5 @@
 -- `each_keeps`: the four lists, one after the other.
 use mathlib.Core.Path.{sym, ◌∙◌}
-use borrow.Author.Tests.{not-true, not-false}
 use borrow.Author.Rules.{rules}
 use Rattle.early.proofs.Slots.{array_sizes}
 use Rattle.rules.proofs.Split.{general_free_broken, reserved_free_broken, general_regions_broken, reserved_regions_decide}

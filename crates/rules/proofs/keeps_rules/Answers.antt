@@ -1,9 +1,7 @@
 -- `keeps_rules`: what each form asks of the slots, the length and the words.
-use mathlib.Core.Path.{◌≡◌, sym, ◌∙◌}
-use Rattle.model.specs.declared.EarlyList.{EarlyList}
+use mathlib.Core.Path.{sym, ◌∙◌}
 use Rattle.early.specs.Slots.{early_list_of}
 use Rattle.rules.proofs.Split.{slot_used, slots_idle, length_zero, length_not_zero}
-use borrow.Author.Rules.{rules}
 use Rattle.rules.proofs.keeps_rules.Goals as goal
 
 pub returns-then-is_idle : goal.returns-then-is_idle

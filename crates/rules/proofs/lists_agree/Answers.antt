@@ -1,7 +1,6 @@
 -- `lists_agree`: by the form.
 use mathlib.Core.Path.{◌∙◌}
 use Rattle.rules.proofs.Split.{general_free_slots, reserved_free_slots, general_regions_slots, reserved_regions_slots, in_slots}
-use borrow.Author.Rules.{rules}
 use Rattle.rules.proofs.lists_agree.Goals as goal
 
 pub slots_agree-requires : goal.slots_agree-requires

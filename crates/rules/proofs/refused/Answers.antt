@@ -1,6 +1,5 @@
 -- `refused`: the answer beside the record.
 use mathlib.Core.Path.{ap}
-use borrow.Author.Rules.{rules}
 use Rattle.model.specs.declared.Answer.{Answer}
 use Rattle.model.specs.declared.Called.{Called}
 use Rattle.rules.proofs.refused.Goals as goal

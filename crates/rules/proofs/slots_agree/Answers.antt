@@ -1,8 +1,6 @@
 -- `slots_agree`: the chunks of each kind in their regions, then the regions of both kinds.
 use mathlib.Core.Path.{sym, ◌∙◌}
-use borrow.Author.Tests.{not-true, not-false}
 use Rattle.rules.proofs.Split.{general_outside, reserved_outside, kinds_decide}
-use borrow.Author.Rules.{rules}
 use Rattle.rules.proofs.slots_agree.Goals as goal
 
 pub returns-then-not-covers_all : goal.returns-then-not-covers_all

@@ -1,8 +1,6 @@
 -- `tables_agree`: the chunks of each kind in their regions, then the regions of both kinds.
 use mathlib.Core.Path.{sym, ◌∙◌}
-use borrow.Author.Tests.{not-true, not-false}
 use Rattle.rules.proofs.Split.{general_free_table, reserved_free_table, general_regions_table, reserved_regions_table, in_tables, general_outside, reserved_outside, kinds_decide}
-use borrow.Author.Rules.{rules}
 use Rattle.rules.proofs.tables_agree.Goals as goal
 
 pub covers_all-requires : goal.covers_all-requires

@@ -2,7 +2,6 @@
 use mathlib.Core.Path.{ap}
 use Rattle.model.specs.declared.FrameAllocator.{FrameAllocator}
 use Rattle.run.specs.Runs.{ran_with}
-use borrow.Author.Rules.{rules}
 use Rattle.run.proofs.ended.Goals as goal
 
 pub returns : goal.returns

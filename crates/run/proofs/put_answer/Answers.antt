@@ -2,7 +2,6 @@
 use lib.ListN.{length-set}
 use Rattle.run.proofs.Along.{five_stores}
 use native.Mathlib.Omega.{arith}
-use borrow.Author.Rules.{rules}
 use Rattle.run.proofs.put_answer.Goals as goal
 
 pub bounds-answers-at-2 : goal.bounds-answers-at-2

@@ -5,8 +5,7 @@ use lib.ListN.{length}
 use Rattle.run_calls.specs.declared.Decoded.TheVariants.{Make}
 use Rattle.run_calls.proofs.Sound.{form_in_list}
 use Rattle.run.proofs.Turns.{stops_done, stops_damaged, stops_full}
-use Rattle.run.proofs.Going.{Going, going_start, going_closes, going_ruled, going_tested, going_kept, going_changed}
-use borrow.Author.Rules.{rules}
+use Rattle.run.proofs.Going.{going_start, going_closes, going_ruled, going_tested, going_kept, going_changed}
 use native.Mathlib.Omega.{arith}
 use Rattle.run.proofs.run.Goals as goal
 

@@ -6,7 +6,6 @@ use Prim.Native.Nat.{ℕ}
 use Rattle.model.specs.Calls.{Gives}
 use Rattle.boot.specs.Boots.{boot_call_of}
 use Rattle.run_calls.proofs.Making.{areas_end, areas_part}
-use borrow.Author.Rules.{rules}
 use Rattle.run_calls.proofs.boot_listed.Goals as goal
 
 pub overflow_mul-from : goal.overflow_mul-from

@@ -5,7 +5,6 @@ use Rattle.model.specs.declared.Called.{Called}
 use Rattle.rules.proofs.Numbers.{checked_ruled, gives_refused}
 use Rattle.run_calls.specs.Commands.{form_call}
 use Rattle.run_calls.proofs.Making.{boot_in_list, byte_boot_in_list, form_long, boot_gives, byte_boot_gives, sort_gives}
-use borrow.Author.Rules.{rules}
 use Rattle.run_calls.proofs.change_form.Goals as goal
 
 pub returns-then-number-ne0 : goal.returns-then-number-ne0

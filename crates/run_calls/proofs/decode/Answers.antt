@@ -8,7 +8,6 @@ use Rattle.run_calls.specs.Commands.{decoded}
 use Rattle.run_calls.specs.declared.RunCall.TheVariants.{Keep}
 use Rattle.run_calls.specs.declared.OpenCall.TheVariants.{Return, KindOf, FreeTotal}
 use Rattle.run_calls.specs.declared.Decoded.TheVariants.{Make}
-use borrow.Author.Rules.{rules}
 use Rattle.run_calls.proofs.decode.Goals as goal
 
 pub returns-in-0 : goal.returns-in-0

@@ -1,7 +1,6 @@
 -- `decode_boot`: its areas are in the list, or it is damaged.
 use mathlib.Core.Path.{sym, ◌∙◌}
 use Rattle.run_calls.proofs.Decoding.{boot_listed, boot_damaged}
-use borrow.Author.Rules.{rules}
 use Rattle.run_calls.proofs.decode_boot.Goals as goal
 
 pub returns-then-are_listed : goal.returns-then-are_listed

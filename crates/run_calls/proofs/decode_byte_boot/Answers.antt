@@ -1,7 +1,6 @@
 -- `decode_byte_boot`: its areas are in the list, or it is damaged.
 use mathlib.Core.Path.{sym, ◌∙◌}
 use Rattle.run_calls.proofs.Decoding.{byte_boot_listed, byte_boot_damaged}
-use borrow.Author.Rules.{rules}
 use Rattle.run_calls.proofs.decode_byte_boot.Goals as goal
 
 pub returns-then-are_listed : goal.returns-then-are_listed

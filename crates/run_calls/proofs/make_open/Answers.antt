@@ -2,14 +2,11 @@
 use mathlib.Core.Path.{◌≡◌, sym, ap, ◌∙◌}
 use Prim.Native.Nat.{ℕ}
 use lib.ListN.{length}
-use native.Mathlib.Omega.{arith}
-use Rattle.model.specs.Calls.{held_call}
 use Rattle.entries.specs.Whole.{refused_with, Ruled}
 use Rattle.packing.specs.Open.{lent}
 use Rattle.run_calls.specs.Commands.{open_call}
 use Rattle.run_calls.specs.Made.{number_for, refused}
 use Rattle.run_calls.proofs.Making.{goes_on, long_number_held, request_made, return_made, kind_made, total_made, held_made}
-use borrow.Author.Rules.{rules}
 use Rattle.run_calls.proofs.make_open.Goals as goal
 
 pub returns-then-refusal-ne0 : goal.returns-then-refusal-ne0

@@ -1,8 +1,5 @@
 -- `number_for`: by the command, and by the buffer of a held list.
-use mathlib.Core.List.{[], ◌∷◌}
-use types.Run.{miss}
 use Rattle.run_calls.proofs.Making.{other_number, short_number, long_number}
-use borrow.Author.Rules.{rules}
 use Rattle.run_calls.proofs.number_for.Goals as goal
 
 pub returns-in_default : goal.returns-in_default

@@ -1,8 +1,8 @@
 -- `covers_all`: at each turn a region that is done with is passed, or a chunk that lies in regions.
 use native.Mathlib.Omega.{arith}
-use Prim.Native.Nat.{◌+◌, ◌-◌}
+use Prim.Native.Nat.{◌-◌}
 use Rattle.tables.proofs.Sums.{tidy_pair}
-use Rattle.table_rules.proofs.Walks.{Reached, reached_start, covered_ends, no_region, region_below, in_gap, chunk_in, chunk_on}
+use Rattle.table_rules.proofs.Walks.{reached_start, covered_ends, no_region, region_below, in_gap, chunk_in, chunk_on}
 use Rattle.table_rules.proofs.covers_all.Goals as goal
 
 pub loop-i-init : goal.loop-i-init

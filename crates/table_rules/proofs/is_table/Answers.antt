@@ -1,5 +1,4 @@
 -- `is_table`: the parts of the test, one after the other.
-use borrow.Author.Rules.{rules}
 use borrow.Author.Tests.{le-leb, lt-leb}
 use mathlib.Core.Path.{sym, ◌∙◌}
 use Rattle.table_rules.specs.Table.{keeps_table}

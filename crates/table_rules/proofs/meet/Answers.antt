@@ -1,7 +1,7 @@
 -- `meet`: at each turn the pair that ends below the other is passed.
 use native.Mathlib.Omega.{arith}
-use Prim.Native.Nat.{◌+◌, ◌-◌}
-use Rattle.table_rules.proofs.Meeting.{Passed, passed_start, first_below, second_below, first_ends, second_ends, pair_meets}
+use Prim.Native.Nat.{◌-◌}
+use Rattle.table_rules.proofs.Meeting.{passed_start, first_below, second_below, first_ends, second_ends, pair_meets}
 use Rattle.table_rules.proofs.meet.Goals as goal
 
 pub loop-i-init : goal.loop-i-init

@@ -1,7 +1,6 @@
 -- `meet`: at each turn the pair that ends below the other is passed.
-use native.Mathlib.Omega.{arith}
 use Prim.Native.Nat.{◌+◌, ◌-◌}
-use Rattle.table_rules.proofs.Meeting.{Passed, passed_start, first_below, second_below, first_ends, second_ends, pair_meets}
+use Rattle.table_rules.proofs.Meeting.{Passed}
 use Rattle.table_rules.proofs.meet.Given as goal
 
 abbrev pub invariant-loop-i : goal.invariant-loop-i

@@ -1,8 +1,7 @@
 -- `length_at`: by the list.
-use mathlib.Core.Path.{◌≡◌, refl, sym, ap, ◌∙◌}
+use mathlib.Core.Path.{sym, ap}
 use Rattle.entries.specs.declared.header.WhichList.{WhichList}
 use Rattle.entries.specs.Whole.{length_at}
-use borrow.Author.Rules.{rules}
 use Rattle.entries.proofs.header.length_at.Goals as goal
 
 pub returns-in-GeneralFree : goal.returns-in-GeneralFree

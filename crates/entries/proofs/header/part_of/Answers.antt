@@ -1,8 +1,7 @@
 -- `part_of`: by the list.
-use mathlib.Core.Path.{◌≡◌, refl, sym, ap, ◌∙◌}
+use mathlib.Core.Path.{sym, ap}
 use Rattle.entries.specs.declared.header.WhichList.{WhichList}
 use Rattle.entries.specs.Whole.{part_of}
-use borrow.Author.Rules.{rules}
 use Rattle.entries.proofs.header.part_of.Goals as goal
 
 pub returns-in-GeneralFree : goal.returns-in-GeneralFree

@@ -1,5 +1,5 @@
 -- `width`: by the form.
-use mathlib.Core.Path.{◌≡◌, refl, sym, ap, ◌∙◌}
+use mathlib.Core.Path.{sym, ap}
 use Rattle.entries.specs.Part.{width}
 use Rattle.entries.proofs.header.width.Goals as goal
 

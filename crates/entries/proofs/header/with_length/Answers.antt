@@ -1,8 +1,7 @@
 -- `with_length`: by the list.
-use mathlib.Core.Path.{◌≡◌, refl, sym, ap, ◌∙◌}
+use mathlib.Core.Path.{sym, ap}
 use Rattle.entries.specs.declared.header.WhichList.{WhichList}
 use Rattle.entries.specs.Whole.{with_length}
-use borrow.Author.Rules.{rules}
 use Rattle.entries.proofs.header.with_length.Goals as goal
 
 pub returns-in-GeneralFree : goal.returns-in-GeneralFree

@@ -1,12 +1,11 @@
 -- `covers_in`: the list, in its own part.
-use mathlib.Core.Path.{◌≡◌, refl, sym, ap, ◌∙◌}
+use mathlib.Core.Path.{ap, ◌∙◌}
 use Rattle.memory_structs.specs.Range.{range}
 use Rattle.model.specs.Lists.{Slot, entries, in_union}
 use mathlib.Core.List.{List}
 use Rattle.entries.proofs.Part.{width_bound}
 use Rattle.entries.proofs.Whole.{lent_fits, lent_part, lent_slots, lent_tidy}
 use native.Mathlib.Omega.{arith}
-use borrow.Author.Rules.{rules}
 use Rattle.entries.proofs.in_part.covers_in.Goals as goal
 
 pub part_of-from-requires : goal.part_of-from-requires

@@ -1,5 +1,4 @@
 -- `likhmout_address_at_offset` writes what `address_at_offset` of the ranges answers.
-use borrow.Author.Rules.{rules}
 use Rattle.exports.proofs.ranges.likhmout_address_at_offset.Goals as goal
 
 pub returns : goal.returns

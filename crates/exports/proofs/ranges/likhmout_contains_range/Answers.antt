@@ -1,5 +1,4 @@
 -- `likhmout_contains_range` writes what `contains_range` of the ranges answers.
-use borrow.Author.Rules.{rules}
 use Rattle.exports.proofs.ranges.likhmout_contains_range.Goals as goal
 
 pub returns : goal.returns

@@ -1,5 +1,4 @@
 -- `likhmout_from_phys_addr` writes what `from_phys_addr` answers.
-use borrow.Author.Rules.{rules}
 use Rattle.exports.proofs.ranges.likhmout_from_phys_addr.Goals as goal
 
 pub returns : goal.returns

@@ -1,5 +1,4 @@
 -- `likhmout_merge` writes what `merge` of the ranges answers.
-use borrow.Author.Rules.{rules}
 use Rattle.exports.proofs.ranges.likhmout_merge.Goals as goal
 
 pub returns : goal.returns

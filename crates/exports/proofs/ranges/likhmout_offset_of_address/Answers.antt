@@ -1,5 +1,4 @@
 -- `likhmout_offset_of_address` writes what `offset_of_address` of the ranges answers.
-use borrow.Author.Rules.{rules}
 use Rattle.exports.proofs.ranges.likhmout_offset_of_address.Goals as goal
 
 pub returns : goal.returns

@@ -1,5 +1,4 @@
 -- `likhmout_overlap` writes what `overlap` of the ranges answers.
-use borrow.Author.Rules.{rules}
 use Rattle.exports.proofs.ranges.likhmout_overlap.Goals as goal
 
 pub returns : goal.returns

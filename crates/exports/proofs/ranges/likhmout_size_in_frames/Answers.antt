@@ -1,5 +1,4 @@
 -- `likhmout_size_in_frames` writes what `size_in_frames` of the ranges answers.
-use borrow.Author.Rules.{rules}
 use Rattle.exports.proofs.ranges.likhmout_size_in_frames.Goals as goal
 
 pub returns : goal.returns

@@ -1,5 +1,4 @@
 -- `likhmout_split_at` writes what `split_at` of the ranges answers.
-use borrow.Author.Rules.{rules}
 use Rattle.exports.proofs.ranges.likhmout_split_at.Goals as goal
 
 pub returns : goal.returns

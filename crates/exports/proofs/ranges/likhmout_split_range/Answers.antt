@@ -1,5 +1,4 @@
 -- `likhmout_split_range` writes what `split_range` of the ranges answers.
-use borrow.Author.Rules.{rules}
 use Rattle.exports.proofs.ranges.likhmout_split_range.Goals as goal
 
 pub returns : goal.returns

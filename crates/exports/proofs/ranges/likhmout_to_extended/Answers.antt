@@ -1,5 +1,4 @@
 -- `likhmout_to_extended` writes what `to_extended` of the ranges answers.
-use borrow.Author.Rules.{rules}
 use Rattle.exports.proofs.ranges.likhmout_to_extended.Goals as goal
 
 pub returns : goal.returns

@@ -1,6 +1,5 @@
 -- `count` gives each end its number.
 use mathlib.Core.Path.{refl}
-use borrow.Author.Rules.{rules}
 use Rattle.exports.proofs.runs.count.Goals as goal
 
 pub returns-in-Done : goal.returns-in-Done

@@ -1,7 +1,6 @@
 -- `lists::fresh`: the same 32 unused slots four times.
 use mathlib.Core.Path.{ap}
 use mathlib.Core.Bool.{false}
-use borrow.Author.Rules.{rules}
 use Rattle.model.specs.Calls.{fresh, fresh_record}
 use Rattle.model.specs.Store.{record_of, early_in, length_in}
 use Rattle.model.specs.declared.EarlyList.{EarlyList}

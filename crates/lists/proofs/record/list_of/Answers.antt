@@ -2,7 +2,6 @@
 use mathlib.Core.Path.{sym, ap, ◌∙◌}
 use Rattle.lists.specs.declared.record.WhichList.{WhichList}
 use Rattle.lists.specs.Record.{list_of}
-use borrow.Author.Rules.{rules}
 use Rattle.lists.proofs.record.list_of.Goals as goal
 
 pub returns-in-GeneralFree : goal.returns-in-GeneralFree

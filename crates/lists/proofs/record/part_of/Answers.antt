@@ -1,7 +1,6 @@
 -- `lists::part_of`: by the list.
 use mathlib.Core.Path.{sym, ap}
 use Rattle.lists.specs.Record.{part_of}
-use borrow.Author.Rules.{rules}
 use Rattle.lists.proofs.record.part_of.Goals as goal
 
 pub returns-in-GeneralFree : goal.returns-in-GeneralFree

@@ -2,7 +2,6 @@
 use mathlib.Core.Path.{sym, ap}
 use Rattle.lists.specs.declared.record.WhichList.{WhichList}
 use Rattle.lists.specs.Record.{list_of, with_list}
-use borrow.Author.Rules.{rules}
 use Rattle.lists.proofs.record.with_list.Goals as goal
 
 pub returns-in-GeneralFree : goal.returns-in-GeneralFree

@@ -1,7 +1,6 @@
 -- `asked_number`: 1 and 2, test by test.
 use native.Mathlib.Omega.{arith}
 use Rattle.requests.proofs.Asked.{one, two, no_number}
-use borrow.Author.Rules.{rules}
 use Rattle.requests.proofs.by_address.asked_number.Goals as goal
 
 pub returns-then-num_frames-eq0 : goal.returns-then-num_frames-eq0

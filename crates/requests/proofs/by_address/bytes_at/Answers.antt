@@ -3,7 +3,6 @@ use mathlib.Core.Path.{sym}
 use Rattle.entries.specs.Whole.{lists_in}
 use Rattle.entries.proofs.Whole.{does_as, does_refuse}
 use Rattle.requests.proofs.Asked.{address_over, address_bytes_over, address_bytes_on}
-use borrow.Author.Rules.{rules}
 use Rattle.requests.proofs.by_address.bytes_at.Goals as goal
 
 pub returns-then-address-ge-ADDRESS_LIMIT : goal.returns-then-address-ge-ADDRESS_LIMIT

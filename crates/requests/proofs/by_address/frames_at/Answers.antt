@@ -12,7 +12,6 @@ use Rattle.entries.proofs.Whole.{tidy_list, does_refuse, does_as}
 use Rattle.requests.specs.Asks.{asked_number}
 use Rattle.requests.proofs.Asked.{asked, address_refused, address_on}
 use Rattle.requests.proofs.Searched.{missing_count, reserved_not, reserved_missing, reserved_short, reserved_chunks}
-use borrow.Author.Rules.{rules}
 use Rattle.requests.proofs.by_address.frames_at.Goals as goal
 
 pub returns-then-number-ne0 : goal.returns-then-number-ne0

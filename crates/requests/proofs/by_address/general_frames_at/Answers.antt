@@ -11,7 +11,6 @@ use Rattle.requests.specs.Asks.{asked_number}
 use Rattle.entries.proofs.Whole.{does_as, does_refuse}
 use Rattle.requests.proofs.Asked.{asked, general_refused, general_on, does_miss}
 use Rattle.requests.proofs.Searched.{only_not, only_missing, only_short, only_chunks}
-use borrow.Author.Rules.{rules}
 use Rattle.requests.proofs.by_address.general_frames_at.Goals as goal
 
 pub returns-then-number-ne0 : goal.returns-then-number-ne0

@@ -7,7 +7,6 @@ use Rattle.request_search.specs.Searches.{found_of}
 use Rattle.request_grants.proofs.Chosen.{search_chooses}
 use Rattle.entries.proofs.Whole.{does_as, does_refuse}
 use Rattle.requests.proofs.Searched.{general_not, general_missing, general_short, general_chunks}
-use borrow.Author.Rules.{rules}
 use Rattle.requests.proofs.by_address.in_general_list.Goals as goal
 
 pub take_in-requires : goal.take_in-requires

@@ -3,7 +3,6 @@ use mathlib.Core.Path.{sym}
 use Rattle.entries.specs.Whole.{lists_in}
 use Rattle.entries.proofs.Whole.{does_as, does_refuse}
 use Rattle.requests.proofs.Counted.{bytes_over, bytes_on}
-use borrow.Author.Rules.{rules}
 use Rattle.requests.proofs.by_count.count_bytes.Goals as goal
 
 pub returns-then-num_bytes-gt-ADDRESS_LIMIT : goal.returns-then-num_bytes-gt-ADDRESS_LIMIT

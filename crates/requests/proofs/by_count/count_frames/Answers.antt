@@ -1,5 +1,5 @@
 -- `count_frames`: 1, 14, or the beginning of the chunk that was found.
-use Prim.Native.Nat.{ℕ, ◌+◌, ◌-◌, ◌≤◌, ◌<◌}
+use Prim.Native.Nat.{◌+◌, ◌-◌, ◌≤◌, ◌<◌}
 use native.Mathlib.Omega.{arith}
 use mathlib.Core.Path.{◌≡◌, refl, sym, ap, ◌∙◌}
 use mathlib.Core.List.{List}
@@ -14,7 +14,6 @@ use Rattle.entries.proofs.Part.{width_bound}
 use Rattle.entries.proofs.Whole.{tidy_list, lent_fits, lent_part, lent_slots, does_as, does_refuse}
 use Rattle.request_taking.specs.Takes.{one_chunk}
 use Rattle.requests.proofs.Counted.{count_none, count_on, no_chunk, place_taken, beginning_chosen, beginning_low}
-use borrow.Author.Rules.{rules}
 use Rattle.requests.proofs.by_count.count_frames.Goals as goal
 
 pub returns-then-num_frames-eq0 : goal.returns-then-num_frames-eq0

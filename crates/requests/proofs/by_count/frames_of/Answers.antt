@@ -1,7 +1,6 @@
 -- `frames_of`: rounded up.
 use mathlib.Core.Path.{refl}
 use Rattle.model.specs.Requests.{frames_of}
-use borrow.Author.Rules.{rules}
 use Rattle.requests.proofs.by_count.frames_of.Goals as goal
 
 pub returns : goal.returns
