@@ -2,10 +2,10 @@
 use native.Mathlib.Omega.{arith}
 use Prim.Native.Nat.{ℕ, ◌≤◌, ◌<◌}
 use mathlib.Core.Path.{◌≡◌, refl, sym, ap, subst, ◌∙◌}
-use mathlib.Core.List.{List, [], ◌∷◌, ◌++◌}
+use mathlib.Core.List.{List, []}
 use lib.ListN.{length}
 use borrow.Author.Tests.{lt-ltb, le-ltb}
-use Rattle.model.specs.Calls.{Call, call, Gives}
+use Rattle.model.specs.Calls.{Call, Gives}
 use Rattle.model.specs.declared.Answer.{Answer}
 use Rattle.model.specs.declared.Area.{Area}
 use Rattle.model.specs.declared.Called.{Called}
@@ -21,7 +21,7 @@ use Rattle.bench_areas.specs.Areas.{Room, Collects, no_areas, count_of, how_many
 use Rattle.bench_texts.specs.Texts.{Puts, bad_line, answer_line}
 use Rattle.bench_answers.specs.declared.Bench.{Bench}
 use Rattle.bench_answers.specs.declared.Reply.{Reply}
-use Rattle.bench_answers.specs.Answered.{State, Answered, saying, collecting, calling, first_state}
+use Rattle.bench_answers.specs.Answered.{saying, collecting, calling, first_state}
 use Rattle.bench_answers.specs.Replies.{Ready, Replies, Gathers, Says, reply_room, first_bench, state_of, with_record}
 
 -- before the first line
