@@ -7,19 +7,19 @@ use Rattle.lists.specs.declared.record.WhichList.{WhichList}
 use Rattle.lists.specs.declared.record.WhichList.TheVariants.{GeneralFree, ReservedFree, GeneralRegions, ReservedRegions}
 use Rattle.bench_texts.specs.Texts.{range_text, line_end_text}
 
--- "(general_free"
+-- "(general-free"
 abbrev pub general_free_text : List ℕ
 general_free_text = 40 ∷ 103 ∷ 101 ∷ 110 ∷ 101 ∷ 114 ∷ 97 ∷ 108 ∷ 45 ∷ 102 ∷ 114 ∷ 101 ∷ 101 ∷ []
 
--- "(reserved_free"
+-- "(reserved-free"
 abbrev pub reserved_free_text : List ℕ
 reserved_free_text = 40 ∷ 114 ∷ 101 ∷ 115 ∷ 101 ∷ 114 ∷ 118 ∷ 101 ∷ 100 ∷ 45 ∷ 102 ∷ 114 ∷ 101 ∷ 101 ∷ []
 
--- "(general_regions"
+-- "(general-regions"
 abbrev pub general_regions_text : List ℕ
 general_regions_text = 40 ∷ 103 ∷ 101 ∷ 110 ∷ 101 ∷ 114 ∷ 97 ∷ 108 ∷ 45 ∷ 114 ∷ 101 ∷ 103 ∷ 105 ∷ 111 ∷ 110 ∷ 115 ∷ []
 
--- "(reserved_regions"
+-- "(reserved-regions"
 abbrev pub reserved_regions_text : List ℕ
 reserved_regions_text = 40 ∷ 114 ∷ 101 ∷ 115 ∷ 101 ∷ 114 ∷ 118 ∷ 101 ∷ 100 ∷ 45 ∷ 114 ∷ 101 ∷ 103 ∷ 105 ∷ 111 ∷ 110 ∷ 115 ∷ []
 

@@ -12,7 +12,7 @@ pub fn put_text(out: &mut [u8], at: usize, text: &[u8]) -> usize
     requires { at + length text.now ≤ length out.old }
     ensures { Puts text.now out.old at out.new result }
 {
-    bytes::copy(text, &mut out[at..]);
+    out[at..at + text.len()].copy_from_slice(text);
     at + text.len()
 }
 

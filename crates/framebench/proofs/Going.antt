@@ -5,7 +5,7 @@ use mathlib.Core.Path.{◌≡◌, refl, sym, ap, subst, ◌∙◌}
 use mathlib.Core.List.{List, [], ◌++◌}
 use lib.ListN.{length, take, drop, length-drop}
 use lib.Seq.{take-length, take_all, drop-drop}
-use Rattle.bytes.specs.Bytes.{slice, index_of}
+use Rattle.lines.specs.Bytes.{slice, index_of}
 use Rattle.bench_lines.specs.Commands.{command_of}
 use Rattle.bench_lines.specs.declared.Command.{Command}
 use Rattle.bench_lines.specs.Lines.{lines_from, rest_from, LineHeld}

@@ -20,7 +20,10 @@ ghost use Rattle.bench_answers.specs.Replies.{Ready, Replies, reply_room, state_
 ghost use Rattle.framebench.specs.Reached.{ReadyAt, AnswersLines};
 
 use bench_answers::{Bench, Reply};
-use libc::{STDIN_FILENO, STDOUT_FILENO};
+use std::io::Read;
+
+// Standard output.
+const STDOUT_FILENO: i32 = 1;
 
 // The bench, and how many bytes of the next line are held.
 #[derive(Clone, Copy)]
@@ -29,7 +32,7 @@ struct Reached {
     held: usize,
 }
 
-fn main() {
+fn main(rt: HostRuntime) {
     let mut chunk = [0u8; 4096];
     // One byte more than a line may have: see `bench_lines::hold`.
     let mut line = [0u8; 129];
@@ -38,11 +41,18 @@ fn main() {
     // 64 areas of each kind, three words to an area.
     let mut areas = [0u64; 384];
     let mut words = [0u64; 4096];
-    run(&mut chunk, &mut line, &mut out, &mut areas, &mut words);
+    run(&rt, &mut chunk, &mut line, &mut out, &mut areas, &mut words);
 }
 
 // A proved loop has to end, and nothing says that input does. So the loop counts its turns down, from a number that no run uses up.
-fn run(chunk: &mut [u8], line: &mut [u8], out: &mut [u8], areas: &mut [u64], words: &mut [u64])
+fn run(
+    rt: &HostRuntime,
+    chunk: &mut [u8],
+    line: &mut [u8],
+    out: &mut [u8],
+    areas: &mut [u64],
+    words: &mut [u64],
+)
     requires { (128 < length line.old) × (reply_room ≤ length out.old) × (384 ≤ length areas.old) × (4096 ≤ length words.old) }
 {
     let mut reached = Reached {
@@ -51,7 +61,7 @@ fn run(chunk: &mut [u8], line: &mut [u8], out: &mut [u8], areas: &mut [u64], wor
     };
     let mut turns = u64::MAX;
     while turns > 0 {
-        let n = read_some(chunk);
+        let n = read_some(rt, chunk);
         if n == 0 {
             break;
         }
@@ -65,11 +75,13 @@ fn run(chunk: &mut [u8], line: &mut [u8], out: &mut [u8], areas: &mut [u64], wor
 }
 
 // Waits for input, and takes what has come: a line is answered before the next one is typed. 0 at the end, or where reading fails.
-fn read_some(chunk: &mut [u8]) -> usize
+fn read_some(rt: &HostRuntime, chunk: &mut [u8]) -> usize
     ensures { IsPrefixLen result chunk.new }
 {
-    let got = libc::read(STDIN_FILENO, chunk);
-    io::count(got, chunk)
+    match rt.stdin().read(chunk) {
+        Ok(n) => n,
+        Err(_) => 0,
+    }
 }
 
 // Answers each line that ends in the text, the first with the bytes held before, and holds what follows the last.
@@ -88,14 +100,14 @@ fn answer_lines(
     let mut bench = reached.bench;
     let mut held = reached.held;
     let mut at = 0;
-    let mut end = bytes::scan::find(text, 0, text.len(), b'\n');
+    let mut end = lines::find(text, 0, text.len(), b'\n');
     while end < text.len() {
         held = bench_lines::hold(line, held, &text[at..end]);
         let reply = answer_line(bench, &line[..held], out, areas, words);
         bench = reply.bench;
         held = 0;
         at = end + 1;
-        end = bytes::scan::find(text, at, text.len(), b'\n');
+        end = lines::find(text, at, text.len(), b'\n');
     }
     held = bench_lines::hold(line, held, &text[at..]);
     Reached { bench, held }

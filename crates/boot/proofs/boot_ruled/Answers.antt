@@ -22,9 +22,9 @@ returns-then-number-ne0 c =
 
 pub finish-requires : goal.finish-requires
 finish-requires c = let j = c.requires.finishable (sym c.refusal-number.ensures ∙ c.if-number-ne0.false) in record {
-      counted = j.counted;
-      whole = j.whole;
-    }
+  counted = j.counted;
+  whole = j.whole;
+}
 
 pub returns : goal.returns
 returns c =

@@ -10,9 +10,9 @@ returns-then-broken-ne0 c = c.refused.ensures ∙ refused_first c.args.s c.args.
 
 pub boot_ruled-requires : goal.boot_ruled-requires
 boot_ruled-requires c = record {
-      ruled = checked_ruled _ _ (sym c.check-broken.ensures ∙ c.if-broken-ne0.false);
-      finishable = c.requires;
-    }
+  ruled = checked_ruled _ _ (sym c.check-broken.ensures ∙ c.if-broken-ne0.false);
+  finishable = c.requires;
+}
 
 pub returns : goal.returns
 returns c = c.boot_ruled.ensures

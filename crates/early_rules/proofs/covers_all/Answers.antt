@@ -1,7 +1,6 @@
 -- `early_rules::covers_all`: at each turn the chunks of the first i slots lie in the regions.
 use mathlib.Core.Path.{sym, ap, ◌∙◌}
 use mathlib.Core.Bool.{Bool}
-use Prim.Native.Nat.{◌-◌}
 use Rattle.memory_structs.specs.declared.range.FrameRange.{FrameRange}
 use Rattle.model.specs.Lists.{entries, all_of, in_union}
 use Rattle.model.specs.Store.{slots_of}

@@ -1,7 +1,5 @@
 -- `early_rules::is_early_list`: at each turn the first i slots keep the rules.
 use mathlib.Core.Path.{sym, ◌∙◌}
-use mathlib.Core.Bool.{false}
-use Prim.Native.Nat.{◌-◌}
 use Rattle.early.proofs.Slots.{Arrays, slots_size}
 use Rattle.early_rules.specs.Slot.{tidy_slot}
 use Rattle.early.specs.Slots.{early_list_of}

@@ -1,6 +1,5 @@
 -- `early_rules::is_idle`: at each turn the first i slots are unused and hold [1,0].
 use mathlib.Core.Path.{sym, ◌∙◌}
-use Prim.Native.Nat.{◌-◌}
 use Rattle.early.proofs.Slots.{Arrays}
 use Rattle.early.specs.Slots.{early_list_of}
 use Rattle.early_rules.proofs.Slotwise.{idle_slot, idle_is, idle_used, idle_numbers, idle_slot_holds, each_fails, each_later, each_done}

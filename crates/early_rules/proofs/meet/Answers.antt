@@ -1,7 +1,6 @@
 -- `early_rules::meet`: at each turn no entry of the first i slots meets the other list.
 use mathlib.Core.Path.{sym, ap, ◌∙◌}
 use mathlib.Core.Bool.{Bool}
-use Prim.Native.Nat.{◌-◌}
 use Rattle.memory_structs.specs.declared.range.FrameRange.{FrameRange}
 use Rattle.model.specs.Lists.{any_of}
 use Rattle.early.proofs.Slots.{array_sizes, slots_size}

@@ -9,10 +9,10 @@ use Rattle.entries.proofs.meets.Goals as goal
 
 pub table_meets-requires : goal.table_meets-requires
 table_meets-requires c = let t = as_table c.requires.part c.if-sorted.true in record {
-      len_in_bounds = omega (arith, t.fits, t.size);
-      t_value = sym (at_sorted tidy c.args.len c.args.t.now c.if-sorted.true) ∙ c.requires.t_value;
-      start_le_end = c.requires.start_le_end;
-    }
+  len_in_bounds = omega (arith, t.fits, t.size);
+  t_value = sym (at_sorted tidy c.args.len c.args.t.now c.if-sorted.true) ∙ c.requires.t_value;
+  start_le_end = c.requires.start_le_end;
+}
 
 pub returns-then-sorted : goal.returns-then-sorted
 returns-then-sorted c = let a = c.args in c.table_meets.ensures ∙ sym (at_sorted (λ b x. any_of (meets (range a.start a.end)) (entries x)) a.len a.t.now c.if-sorted.true)

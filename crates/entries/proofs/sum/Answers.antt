@@ -8,18 +8,18 @@ use Rattle.entries.proofs.sum.Goals as goal
 
 pub sum-requires : goal.sum-requires
 sum-requires c = let t = as_table c.requires.part c.if-sorted.true in record {
-      len_in_bounds = omega (arith, t.fits, t.size);
-      t_value = sym (at_sorted tidy c.args.len c.args.t.now c.if-sorted.true) ∙ c.requires.t_value;
-    }
+  len_in_bounds = omega (arith, t.fits, t.size);
+  t_value = sym (at_sorted tidy c.args.len c.args.t.now c.if-sorted.true) ∙ c.requires.t_value;
+}
 
 pub returns-then-sorted : goal.returns-then-sorted
 returns-then-sorted c = let a = c.args in c.sum.ensures ∙ sym (at_sorted (λ b x. sum (entries x)) a.len a.t.now c.if-sorted.true)
 
 pub sum-requires-2 : goal.sum-requires-2
 sum-requires-2 c = record {
-      t_len = (as_pairs c.requires.part c.if-sorted.false).size;
-      t_value = sym (at_early tidy c.args.len c.args.t.now c.if-sorted.false) ∙ c.requires.t_value;
-    }
+  t_len = (as_pairs c.requires.part c.if-sorted.false).size;
+  t_value = sym (at_early tidy c.args.len c.args.t.now c.if-sorted.false) ∙ c.requires.t_value;
+}
 
 pub returns : goal.returns
 returns c = let a = c.args in c.sum-2.ensures ∙ sym (at_early (λ b x. sum (entries x)) a.len a.t.now c.if-sorted.false)

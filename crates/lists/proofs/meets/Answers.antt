@@ -14,10 +14,10 @@ returns-then-end-start c = none_met (range c.args.start c.args.end) (entries (sl
 
 pub table_meets-requires : goal.table_meets-requires
 table_meets-requires c = let t = as_table c.args.l c.args.t.now c.requires.list c.if-l.true in record {
-      len_in_bounds = omega (arith, t.fits, t.size);
-      t_value = sym (at_sorted tidy c.args.l c.args.t.now c.if-l.true) ∙ c.requires.t_value;
-      start_le_end = c.if-end-start.false;
-    }
+  len_in_bounds = omega (arith, t.fits, t.size);
+  t_value = sym (at_sorted tidy c.args.l c.args.t.now c.if-l.true) ∙ c.requires.t_value;
+  start_le_end = c.if-end-start.false;
+}
 
 pub returns-then-l : goal.returns-then-l
 returns-then-l c = let a = c.args in

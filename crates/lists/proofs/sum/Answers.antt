@@ -8,9 +8,9 @@ use Rattle.lists.proofs.sum.Goals as goal
 
 pub sum-requires : goal.sum-requires
 sum-requires c = let t = as_table c.args.l c.args.t.now c.requires.list c.if-l.true in record {
-      len_in_bounds = omega (arith, t.fits, t.size);
-      t_value = sym (at_sorted tidy c.args.l c.args.t.now c.if-l.true) ∙ c.requires.t_value;
-    }
+  len_in_bounds = omega (arith, t.fits, t.size);
+  t_value = sym (at_sorted tidy c.args.l c.args.t.now c.if-l.true) ∙ c.requires.t_value;
+}
 
 pub returns-then-l : goal.returns-then-l
 returns-then-l c = c.sum.ensures ∙ sym (at_sorted (λ b x. sum (entries x)) c.args.l c.args.t.now c.if-l.true)

@@ -15,9 +15,9 @@ use Rattle.lists.proofs.table_meets.Goals as goal
 
 pub highest_at_or_below-requires : goal.highest_at_or_below-requires
 highest_at_or_below-requires c = record {
-      len_in_bounds = c.requires.len_in_bounds;
-      t_value = tidy_rising _ c.requires.t_value;
-    }
+  len_in_bounds = c.requires.len_in_bounds;
+  t_value = tidy_rising _ c.requires.t_value;
+}
 
 pub overflow_mul-result : goal.overflow_mul-result
 overflow_mul-result c =

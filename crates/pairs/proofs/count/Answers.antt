@@ -11,8 +11,10 @@ pub loop-i-preserved : goal.loop-i-preserved
 loop-i-preserved c = let t = c.args.t.now in
     let i = c.loop-i.i in
     let n : (c.if-t-i.n ≤ i + 1) × (length (left 0 t) ≡ c.if-t-i.n + length (left (i + 1) t))
-    = elim c.if-t-i.branch [ then-t-i w ↦ let e : c.if-t-i.n ≡ c.loop-i.n + 1 = w.n-is in omega (arith, ap length (one_used t i (omega arith) w.if-t-i.true))
-      | else-t-i w ↦ let e : c.if-t-i.n ≡ c.loop-i.n = w.n-is in omega (arith, ap length (none_used_holds t i (omega arith) w.if-t-i.false)) ] in
+    = elim c.if-t-i.branch [
+      | then-t-i w ↦ let e : c.if-t-i.n ≡ c.loop-i.n + 1 = w.n-is in omega (arith, ap length (one_used t i (omega arith) w.if-t-i.true))
+      | else-t-i w ↦ let e : c.if-t-i.n ≡ c.loop-i.n = w.n-is in omega (arith, ap length (none_used_holds t i (omega arith) w.if-t-i.false))
+    ] in
     (omega arith, n.0, n.1)
 
 pub returns : goal.returns

@@ -19,9 +19,9 @@ slice_bounds-meets-end c = omega (arith, c.requires.long, lent_fits _ _ c.part_o
 
 pub meets-requires : goal.meets-requires
 meets-requires c = record {
-      list = lent_list c.args.a c.args.words.now c.requires.long (stores c.args.a c.args.words.now c.requires) c.args.which c.part_of-from.ensures c.list_of-list.ensures;
-      t_value = lent_tidy c.args.a c.args.words.now c.requires.long (stores c.args.a c.args.words.now c.requires) c.args.which c.part_of-from.ensures c.list_of-list.ensures (ruled c.args.a c.args.words.now c.requires);
-    }
+  list = lent_list c.args.a c.args.words.now c.requires.long (stores c.args.a c.args.words.now c.requires) c.args.which c.part_of-from.ensures c.list_of-list.ensures;
+  t_value = lent_tidy c.args.a c.args.words.now c.requires.long (stores c.args.a c.args.words.now c.requires) c.args.which c.part_of-from.ensures c.list_of-list.ensures (ruled c.args.a c.args.words.now c.requires);
+}
 
 pub returns : goal.returns
 returns c = c.meets.ensures ∙ lent_is c.args.a c.args.words.now c.requires.long (stores c.args.a c.args.words.now c.requires) c.args.which c.part_of-from.ensures c.list_of-list.ensures (λ b x. any_of (meets (range c.args.start c.args.end)) (entries x))

@@ -19,10 +19,10 @@ slice_bounds-covers-end c = omega (arith, c.requires.ruled.long, lent_fits _ _ c
 
 pub covers-requires : goal.covers-requires
 covers-requires c = let w = stores c.args.a c.args.words.now c.requires.ruled in record {
-      list = lent_list c.args.a c.args.words.now c.requires.ruled.long w c.args.which c.part_of-from.ensures c.list_of-list.ensures;
-      t_value = lent_tidy c.args.a c.args.words.now c.requires.ruled.long w c.args.which c.part_of-from.ensures c.list_of-list.ensures (ruled c.args.a c.args.words.now c.requires.ruled);
-      start_le_end = omega (arith, c.requires.start_le_end);
-    }
+  list = lent_list c.args.a c.args.words.now c.requires.ruled.long w c.args.which c.part_of-from.ensures c.list_of-list.ensures;
+  t_value = lent_tidy c.args.a c.args.words.now c.requires.ruled.long w c.args.which c.part_of-from.ensures c.list_of-list.ensures (ruled c.args.a c.args.words.now c.requires.ruled);
+  start_le_end = omega (arith, c.requires.start_le_end);
+}
 
 pub returns : goal.returns
 returns c = c.covers.ensures ∙ lent_is c.args.a c.args.words.now c.requires.ruled.long (stores c.args.a c.args.words.now c.requires.ruled) c.args.which c.part_of-from.ensures c.list_of-list.ensures (λ b x. in_union (entries x) (range c.args.start c.args.end))

@@ -27,10 +27,10 @@ slice_bounds-insert-end c = omega (arith, c.requires.ruled.long, lent_fits _ _ c
 pub insert-list-requires : goal.insert-list-requires
 unfolding load
 insert-list-requires c = record {
-      list = lent_list c.args.a c.args.words.now c.requires.ruled.long (stores c.args.a c.args.words.now c.requires.ruled) c.args.which c.part_of-from.ensures c.list_of-list.ensures;
-      t_value = lent_has c.args.a c.args.words.now c.requires.ruled.long (stores c.args.a c.args.words.now c.requires.ruled) c.args.which c.part_of-from.ensures c.list_of-list.ensures (λ b x. slotted b x ≡ true) (tidy_slotted c.args.a.sorted (slots_at c.args.which (load c.args.a c.args.words.now)) (tidy_list (load c.args.a c.args.words.now) (ruled c.args.a c.args.words.now c.requires.ruled) c.args.which));
-      t_len_bound = (lent_has c.args.a c.args.words.now c.requires.ruled.long (stores c.args.a c.args.words.now c.requires.ruled) c.args.which c.part_of-from.ensures c.list_of-list.ensures (λ b x. length (entries x) < bound b) c.requires.words_len_bound);
-    }
+  list = lent_list c.args.a c.args.words.now c.requires.ruled.long (stores c.args.a c.args.words.now c.requires.ruled) c.args.which c.part_of-from.ensures c.list_of-list.ensures;
+  t_value = lent_has c.args.a c.args.words.now c.requires.ruled.long (stores c.args.a c.args.words.now c.requires.ruled) c.args.which c.part_of-from.ensures c.list_of-list.ensures (λ b x. slotted b x ≡ true) (tidy_slotted c.args.a.sorted (slots_at c.args.which (load c.args.a c.args.words.now)) (tidy_list (load c.args.a c.args.words.now) (ruled c.args.a c.args.words.now c.requires.ruled) c.args.which));
+  t_len_bound = (lent_has c.args.a c.args.words.now c.requires.ruled.long (stores c.args.a c.args.words.now c.requires.ruled) c.args.which c.part_of-from.ensures c.list_of-list.ensures (λ b x. length (entries x) < bound b) c.requires.words_len_bound);
+}
 
 pub returns : goal.returns
 returns c = let z = lent_back c.args.a c.args.words.now c.requires.ruled.long (stores c.args.a c.args.words.now c.requires.ruled) c.args.which c.part_of-from.ensures c.list_of-list.ensures (λ b x. insert b (range c.args.start c.args.end) x) c.insert-list.ensures in

@@ -18,9 +18,9 @@ slice_bounds-sum-end c = omega (arith, c.requires.long, lent_fits _ _ c.part_of-
 
 pub sum-requires : goal.sum-requires
 sum-requires c = record {
-      list = lent_list c.args.a c.args.words.now c.requires.long (stores c.args.a c.args.words.now c.requires) c.args.which c.part_of-from.ensures c.list_of.ensures;
-      t_value = lent_tidy c.args.a c.args.words.now c.requires.long (stores c.args.a c.args.words.now c.requires) c.args.which c.part_of-from.ensures c.list_of.ensures (ruled c.args.a c.args.words.now c.requires);
-    }
+  list = lent_list c.args.a c.args.words.now c.requires.long (stores c.args.a c.args.words.now c.requires) c.args.which c.part_of-from.ensures c.list_of.ensures;
+  t_value = lent_tidy c.args.a c.args.words.now c.requires.long (stores c.args.a c.args.words.now c.requires) c.args.which c.part_of-from.ensures c.list_of.ensures (ruled c.args.a c.args.words.now c.requires);
+}
 
 pub returns : goal.returns
 returns c = c.sum.ensures ∙ lent_is c.args.a c.args.words.now c.requires.long (stores c.args.a c.args.words.now c.requires) c.args.which c.part_of-from.ensures c.list_of.ensures (λ b x. sum (entries x))

@@ -11,9 +11,9 @@ returns-then-opened-ne0 c = held_refused c.args.a c.args.words.now c.args.buffer
 
 pub list_held-requires : goal.list_held-requires
 list_held-requires c = record {
-      ruled = may_ask c.open-opened.ensures c.if-opened-ne0.false;
-      in_bounds = omega (arith, c.if-buffer-lt2048.false);
-    }
+  ruled = may_ask c.open-opened.ensures c.if-opened-ne0.false;
+  in_bounds = omega (arith, c.if-buffer-lt2048.false);
+}
 
 pub returns : goal.returns
 returns c = held_going c.args.a c.args.words.now c.args.buffer.now (omega (arith, c.if-buffer-lt2048.false)) (passed c.open-opened.ensures c.if-opened-ne0.false) (listed_of (asked_lists c.open-opened.ensures c.if-opened-ne0.false) c.list_held.ensures)

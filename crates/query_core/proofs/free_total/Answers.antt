@@ -33,9 +33,9 @@ slice_bounds-sum-end c =
 
 pub sum-frames-requires : goal.sum-frames-requires
 sum-frames-requires c = record {
-      part = lent_part c.args.h c.args.lists.now c.requires c.free_list-which.result c.width-size.ensures c.part_of-from.ensures c.length_at-len.ensures;
-      t_value = lent_tidy c.args.h c.args.lists.now c.requires c.free_list-which.result c.width-size.ensures c.part_of-from.ensures c.length_at-len.ensures;
-    }
+  part = lent_part c.args.h c.args.lists.now c.requires c.free_list-which.result c.width-size.ensures c.part_of-from.ensures c.length_at-len.ensures;
+  t_value = lent_tidy c.args.h c.args.lists.now c.requires c.free_list-which.result c.width-size.ensures c.part_of-from.ensures c.length_at-len.ensures;
+}
 
 pub returns : goal.returns
 returns c = let x = lists_in c.args.h c.args.lists.now in

@@ -19,9 +19,9 @@ returns-then-is_empty c =
 
 pub meets_in-requires : goal.meets_in-requires
 meets_in-requires c = record {
-      ruled = c.requires;
-      start_le_end = ltb-false _ _ (sym c.is_empty.ensures ∙ c.if-is_empty.false);
-    }
+  ruled = c.requires;
+  start_le_end = ltb-false _ _ (sym c.is_empty.ensures ∙ c.if-is_empty.false);
+}
 
 pub returns-then-meets_in : goal.returns-then-meets_in
 unfolding slots_at

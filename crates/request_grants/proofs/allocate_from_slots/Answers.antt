@@ -6,9 +6,9 @@ use Rattle.request_grants.proofs.allocate_from_slots.Goals as goal
 
 pub empty_slot-requires : goal.empty_slot-requires
 empty_slot-requires c = record {
-      pairs = c.requires.pairs;
-      i_bound = omega (arith, pairs_length 32 c.args.t.now, c.requires.chooses.some, c.requires.chooses.in_list);
-    }
+  pairs = c.requires.pairs;
+  i_bound = omega (arith, pairs_length 32 c.args.t.now, c.requires.chooses.some, c.requires.chooses.in_list);
+}
 
 pub put_before-requires : goal.put_before-requires
 put_before-requires c = pairs_emptied c.args.t.now c.args.chosen c.args.asked.start c.args.asked.end c.requires.t_value c.requires.chooses c.empty_slot.ensures

@@ -10,9 +10,9 @@ returns-then-many-eq1 c = let a = c.args in
 
 pub remove_at-requires : goal.remove_at-requires
 remove_at-requires c = let a = c.args in record {
-      table = rewritten_table a.len a.first (range a.left.start a.left.end) a.t.now _ c.requires.table c.replace_at.ensures;
-      k_bound = omega (arith, c.requires.many_nonzero);
-    }
+  table = rewritten_table a.len a.first (range a.left.start a.left.end) a.t.now _ c.requires.table c.replace_at.ensures;
+  k_bound = omega (arith, c.requires.many_nonzero);
+}
 
 pub returns : goal.returns
 returns c = let a = c.args in

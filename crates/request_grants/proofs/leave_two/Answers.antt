@@ -10,9 +10,9 @@ use Rattle.request_grants.proofs.leave_two.Goals as goal
 
 pub replace_at-requires : goal.replace_at-requires
 replace_at-requires c = let a = c.args in record {
-      table = c.requires.table;
-      i_lt_len = omega (arith, c.requires.chooses.some, c.requires.chooses.in_list, table_length a.len a.t.now);
-    }
+  table = c.requires.table;
+  i_lt_len = omega (arith, c.requires.chooses.some, c.requires.chooses.in_list, table_length a.len a.t.now);
+}
 
 pub insert-requires : goal.insert-requires
 insert-requires c = let a = c.args in
@@ -33,9 +33,9 @@ overflow_add-chosen c = omega (arith, c.requires.table.fits, c.requires.chooses.
 
 pub leave_one-requires : goal.leave_one-requires
 leave_one-requires c = let a = c.args in record {
-      table = rewritten_table a.len a.chosen.first (range a.chosen.start (a.asked.start - 1)) a.t.now _ c.requires.table c.replace_at.ensures;
-      many_nonzero = omega (arith, c.if-chosen-eq1.false, c.requires.chooses.some, c.requires.chooses.in_list, table_length a.len a.t.now);
-    }
+  table = rewritten_table a.len a.chosen.first (range a.chosen.start (a.asked.start - 1)) a.t.now _ c.requires.table c.replace_at.ensures;
+  many_nonzero = omega (arith, c.if-chosen-eq1.false, c.requires.chooses.some, c.requires.chooses.in_list, table_length a.len a.t.now);
+}
 
 pub returns : goal.returns
 returns c = let a = c.args in

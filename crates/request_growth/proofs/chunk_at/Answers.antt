@@ -24,9 +24,9 @@ slice_bounds-entry-end c = omega (arith, lent_fits c.args.h c.args.lists.now c.r
 
 pub entry-chunk-requires : goal.entry-chunk-requires
 entry-chunk-requires c = record {
-      part = lent_part c.args.h c.args.lists.now c.requires.ruled ReservedFree c.width-size.ensures c.part_of-from.ensures c.length_at-len.ensures;
-      i_in_bounds = omega (arith, ap (length {A = Slot}) (lent_slots c.args.h c.args.lists.now c.requires.ruled ReservedFree c.width-size.ensures c.part_of-from.ensures c.length_at-len.ensures), c.requires.i_in_bounds);
-    }
+  part = lent_part c.args.h c.args.lists.now c.requires.ruled ReservedFree c.width-size.ensures c.part_of-from.ensures c.length_at-len.ensures;
+  i_in_bounds = omega (arith, ap (length {A = Slot}) (lent_slots c.args.h c.args.lists.now c.requires.ruled ReservedFree c.width-size.ensures c.part_of-from.ensures c.length_at-len.ensures), c.requires.i_in_bounds);
+}
 
 pub returns : goal.returns
 returns c = c.one_chunk.ensures ∙ ap (one_chunk c.args.i) (c.entry-chunk.ensures ∙ ap (λ (x : List Slot). range_at x c.args.i) (lent_slots c.args.h c.args.lists.now c.requires.ruled ReservedFree c.width-size.ensures c.part_of-from.ensures c.length_at-len.ensures))

@@ -11,9 +11,9 @@ use Rattle.request_growth.proofs.grow_tail.Goals as goal
 pub growth_refusal-number-requires : goal.growth_refusal-number-requires
 unfolding lists_in
 growth_refusal-number-requires c = record {
-      ruled = c.requires.ruled;
-      start_le_end = tail_filled c.args.h c.args.lists.now c.requires.ruled c.args.from c.args.asked.start c.args.asked.end c.requires.lists_value;
-    }
+  ruled = c.requires.ruled;
+  start_le_end = tail_filled c.args.h c.args.lists.now c.requires.ruled c.args.from c.args.asked.start c.args.asked.end c.requires.lists_value;
+}
 
 pub returns-then-number-ne0 : goal.returns-then-number-ne0
 returns-then-number-ne0 c = let l = lists_in c.args.h c.args.lists.now in
@@ -27,9 +27,9 @@ overflow_sub-last c = some_chunk c.args.h c.args.lists.now c.requires.ruled c.ar
 pub chunk_at-chosen-requires : goal.chunk_at-chosen-requires
 unfolding lists_in slots_at
 chunk_at-chosen-requires c = record {
-      ruled = c.requires.ruled;
-      i_in_bounds = has_last c.args.h c.args.lists.now c.requires.ruled c.args.from c.args.asked.start c.args.asked.end c.requires.lists_value _ c.count_in-last.ensures;
-    }
+  ruled = c.requires.ruled;
+  i_in_bounds = has_last c.args.h c.args.lists.now c.requires.ruled c.args.from c.args.asked.start c.args.asked.end c.requires.lists_value _ c.count_in-last.ensures;
+}
 
 pub take_out-cut-requires : goal.take_out-cut-requires
 unfolding lists_in slots_at

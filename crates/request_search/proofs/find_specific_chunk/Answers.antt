@@ -17,9 +17,9 @@ use Rattle.request_search.proofs.find_specific_chunk.Goals as goal
 
 pub find_in_table-requires : goal.find_in_table-requires
 find_in_table-requires c = let t = as_table c.requires.part c.if-sorted.true in record {
-      len_in_bounds = omega (arith, t.fits, t.size);
-      t_value = tidy_rising _ (sym (at_sorted tidy c.args.len c.args.t.now c.if-sorted.true) ∙ c.requires.t_value);
-    }
+  len_in_bounds = omega (arith, t.fits, t.size);
+  t_value = tidy_rising _ (sym (at_sorted tidy c.args.len c.args.t.now c.if-sorted.true) ∙ c.requires.t_value);
+}
 
 pub returns-then-sorted : goal.returns-then-sorted
 returns-then-sorted c = let a = c.args in

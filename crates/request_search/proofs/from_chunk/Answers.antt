@@ -17,9 +17,9 @@ returns-then-end-chunk_end c = let a = c.args in
 
 pub with_next-requires : goal.with_next-requires
 with_next-requires c = record {
-      len_in_bounds = c.requires;
-      chunk_end_lt_end = c.if-end-chunk_end.false;
-    }
+  len_in_bounds = c.requires;
+  chunk_end_lt_end = c.if-end-chunk_end.false;
+}
 
 pub returns : goal.returns
 returns c = let a = c.args in

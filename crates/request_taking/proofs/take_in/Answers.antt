@@ -22,10 +22,10 @@ slice_bounds-take-end c = omega (arith, lent_fits c.args.h c.args.lists.now c.re
 
 pub take-left-requires : goal.take-left-requires
 take-left-requires c = record {
-      part = lent_part c.args.h c.args.lists.now c.requires.ruled c.args.which c.width-size.ensures c.part_of-from.ensures c.length_at-len.ensures;
-      t_value = lent_tidy c.args.h c.args.lists.now c.requires.ruled c.args.which c.width-size.ensures c.part_of-from.ensures c.length_at-len.ensures;
-      chooses = lent_chooses c.args.h c.args.lists.now c.requires.ruled c.args.which c.args.chosen c.args.asked.start c.args.asked.end c.width-size.ensures c.part_of-from.ensures c.length_at-len.ensures c.requires.chooses;
-    }
+  part = lent_part c.args.h c.args.lists.now c.requires.ruled c.args.which c.width-size.ensures c.part_of-from.ensures c.length_at-len.ensures;
+  t_value = lent_tidy c.args.h c.args.lists.now c.requires.ruled c.args.which c.width-size.ensures c.part_of-from.ensures c.length_at-len.ensures;
+  chooses = lent_chooses c.args.h c.args.lists.now c.requires.ruled c.args.which c.args.chosen c.args.asked.start c.args.asked.end c.width-size.ensures c.part_of-from.ensures c.length_at-len.ensures c.requires.chooses;
+}
 
 pub returns-then-not-left : goal.returns-then-not-left
 returns-then-not-left c = let a = c.args in

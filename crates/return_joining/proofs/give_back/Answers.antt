@@ -7,10 +7,10 @@ use Rattle.return_joining.proofs.give_back.Goals as goal
 
 pub rejoin_table-requires : goal.rejoin_table-requires
 rejoin_table-requires c = let e = c.if-sorted.true in record {
-      table = as_table c.requires.part e;
-      t_value = sym (at_sorted tidy c.args.len c.args.t.now e) ∙ c.requires.t_value;
-      end_le_top = c.requires.end_le_top;
-    }
+  table = as_table c.requires.part e;
+  t_value = sym (at_sorted tidy c.args.len c.args.t.now e) ∙ c.requires.t_value;
+  end_le_top = c.requires.end_le_top;
+}
 
 pub returns-then-sorted : goal.returns-then-sorted
 returns-then-sorted c = let a = c.args in

@@ -15,9 +15,9 @@ use Rattle.return_joining.proofs.rejoin_table.Goals as goal
 
 pub starting_at-requires : goal.starting_at-requires
 starting_at-requires c = record {
-      len_in_bounds = omega (arith, c.requires.table.fits, c.requires.table.size);
-      t_value = c.requires.t_value;
-    }
+  len_in_bounds = omega (arith, c.requires.table.fits, c.requires.table.size);
+  t_value = c.requires.t_value;
+}
 
 pub overflow_mul-last : goal.overflow_mul-last
 overflow_mul-last c =
@@ -63,9 +63,9 @@ returns-in-At c =
 
 pub ending_below-requires : goal.ending_below-requires
 ending_below-requires c = record {
-      len_in_bounds = omega (arith, c.requires.table.fits, c.requires.table.size);
-      t_value = c.requires.t_value;
-    }
+  len_in_bounds = omega (arith, c.requires.table.fits, c.requires.table.size);
+  t_value = c.requires.t_value;
+}
 
 pub overflow_mul-first : goal.overflow_mul-first
 overflow_mul-first c =

@@ -27,10 +27,10 @@ slice_bounds-give_back-end c = omega (arith, lent_fits c.args.h c.args.lists.now
 
 pub give_back-back-requires : goal.give_back-back-requires
 give_back-back-requires c = record {
-      part = lent_part c.args.h c.args.lists.now c.requires.ruled c.args.which c.width-size.ensures c.part_of-from.ensures c.length_at-len.ensures;
-      t_value = lent_tidy c.args.h c.args.lists.now c.requires.ruled c.args.which c.width-size.ensures c.part_of-from.ensures c.length_at-len.ensures;
-      end_le_top = c.requires.end_le_top;
-    }
+  part = lent_part c.args.h c.args.lists.now c.requires.ruled c.args.which c.width-size.ensures c.part_of-from.ensures c.length_at-len.ensures;
+  t_value = lent_tidy c.args.h c.args.lists.now c.requires.ruled c.args.which c.width-size.ensures c.part_of-from.ensures c.length_at-len.ensures;
+  end_le_top = c.requires.end_le_top;
+}
 
 pub returns-then-not-back : goal.returns-then-not-back
 returns-then-not-back c =

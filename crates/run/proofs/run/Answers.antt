@@ -57,9 +57,9 @@ record_now-before-requires c = going_closes c.loop-made.invariant
 
 pub change_form-called-requires : goal.change_form-called-requires
 change_form-called-requires c = record {
-      number_value = going_tested c.loop-made.invariant _ c.record_now-before.ensures;
-      listed = form_in_list _ _ _ _ _ (ap Make (sym c.in-Change.is) ∙ sym c.in-Make.is ∙ c.decode-decoded.ensures);
-    }
+  number_value = going_tested c.loop-made.invariant _ c.record_now-before.ensures;
+  listed = form_in_list _ _ _ _ _ (ap Make (sym c.in-Change.is) ∙ sym c.in-Make.is ∙ c.decode-decoded.ensures);
+}
 
 pub put_answer-requires-in-Change : goal.put_answer-requires-in-Change
 put_answer-requires-in-Change c = omega (arith, c.if-answers-at-lt5.false)

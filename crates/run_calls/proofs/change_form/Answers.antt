@@ -12,15 +12,15 @@ returns-then-number-ne0 c = subst (λ (x : Called). Gives (form_call c.args.area
 
 pub boot_listed-requires : goal.boot_listed-requires
 boot_listed-requires c = record {
-      ruled = checked_ruled _ _ (sym c.requires.number_value ∙ c.if-number-ne0.false);
-      count_value = boot_in_list _ _ _ _ c.in-Boot.is c.requires.listed;
-    }
+  ruled = checked_ruled _ _ (sym c.requires.number_value ∙ c.if-number-ne0.false);
+  count_value = boot_in_list _ _ _ _ c.in-Boot.is c.requires.listed;
+}
 
 pub boot_listed-requires-in-BootBytes : goal.boot_listed-requires-in-BootBytes
 boot_listed-requires-in-BootBytes c = record {
-      ruled = checked_ruled _ _ (sym c.requires.number_value ∙ c.if-number-ne0.false);
-      count_value = byte_boot_in_list _ _ _ _ c.in-BootBytes.is c.requires.listed;
-    }
+  ruled = checked_ruled _ _ (sym c.requires.number_value ∙ c.if-number-ne0.false);
+  count_value = byte_boot_in_list _ _ _ _ c.in-BootBytes.is c.requires.listed;
+}
 
 pub sort_record-requires : goal.sort_record-requires
 sort_record-requires c = checked_ruled _ _ (sym c.requires.number_value ∙ c.if-number-ne0.false)

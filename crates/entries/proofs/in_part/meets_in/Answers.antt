@@ -22,10 +22,10 @@ slice_bounds-meets-end c = omega (arith, lent_fits c.args.h c.args.entries.now c
 
 pub meets-requires : goal.meets-requires
 meets-requires c = record {
-      part = lent_part c.args.h c.args.entries.now c.requires.ruled c.args.which c.width-size.ensures c.part_of-from.ensures c.length_at-len.ensures;
-      t_value = lent_tidy c.args.h c.args.entries.now c.requires.ruled c.args.which c.width-size.ensures c.part_of-from.ensures c.length_at-len.ensures;
-      start_le_end = c.requires.start_le_end;
-    }
+  part = lent_part c.args.h c.args.entries.now c.requires.ruled c.args.which c.width-size.ensures c.part_of-from.ensures c.length_at-len.ensures;
+  t_value = lent_tidy c.args.h c.args.entries.now c.requires.ruled c.args.which c.width-size.ensures c.part_of-from.ensures c.length_at-len.ensures;
+  start_le_end = c.requires.start_le_end;
+}
 
 pub returns : goal.returns
 returns c = let a = c.args in
