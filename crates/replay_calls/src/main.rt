@@ -55,7 +55,7 @@ fn replay(text: &[u8], words: &mut [u64], numbers: &mut [u64])
     let mut a = lists::fresh();
     let mut at = 0;
     while at < text.len() {
-        let end = bytes::scan::find(text, at, text.len(), b'\n');
+        let end = lines::find(text, at, text.len(), b'\n');
         a = answer_line(a, words, &text[at..end], numbers);
         at = end + 1;
     }
@@ -70,7 +70,7 @@ fn answer_line(
 ) -> FrameAllocator
     requires { 4096 ≤ length words.old }
 {
-    let first_end = bytes::scan::find(line, 0, line.len(), b' ');
+    let first_end = lines::find(line, 0, line.len(), b' ');
     let way = reading::way_of(&line[..first_end]);
     let from = reading::call_start(way, first_end, line.len());
     answer_call(a, words, way, &line[from..], numbers)
@@ -85,7 +85,7 @@ fn answer_call(
 ) -> FrameAllocator
     requires { 4096 ≤ length words.old }
 {
-    let name_end = bytes::scan::find(line, 0, line.len(), b' ');
+    let name_end = lines::find(line, 0, line.len(), b' ');
     let name = &line[..name_end];
     let asked = reading::asked_by(line, name);
     let read = lines::read_words(line, name_end, reading::layout_of(asked), numbers);

@@ -132,7 +132,7 @@ fn place_of(word: &[u8], words: &[u8]) -> usize {
     let mut place = 0;
     let mut at = 0;
     while at < words.len() {
-        let end = bytes::scan::find(words, at, words.len(), b',');
+        let end = lines::find(words, at, words.len(), b',');
         if check::same(word, &words[at..end]) {
             return place;
         }

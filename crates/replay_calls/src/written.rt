@@ -1,5 +1,6 @@
 // Words written to the line of standard output.
-use libc::STDOUT_FILENO;
+// Standard output.
+const STDOUT_FILENO: i32 = 1;
 
 // A word that is given whole.
 pub fn text(word: &[u8]) {
