@@ -35,7 +35,7 @@
 //! **Threads.** A lock is the program's. `Shared` is for one thread. Behind a lock an [`Allocator`] serves several, with returns by plain
 //! numbers.
 //!
-//! A call takes up to 48 KB of stack (a run; a request 44 KB, a return 22 KB, any other call 14 KB; measured, not proved). The library
+//! A call takes up to 31 KB of stack (a run; a boot 20 KB, a request or a return 19 KB, any other call 11 KB; measured, not proved). The library
 //! uses SSE2 registers and the red zone.
 
 #![no_std]
