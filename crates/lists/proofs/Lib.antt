@@ -1,5 +1,0 @@
-pub mod One
-pub mod Again
-pub mod Whole
-pub mod Meeting
-pub mod Lent
