@@ -18,8 +18,7 @@ use Rattle.run_calls.specs.declared.RunCall.{RunCall}
 use Rattle.run_calls.specs.declared.RunCall.TheVariants.{Change, Keep}
 use Rattle.run_calls.specs.declared.FormCall.{FormCall}
 use Rattle.run_calls.specs.declared.OpenCall.{OpenCall}
-use Rattle.run_calls.specs.declared.Decoded.{Decoded}
-use Rattle.run_calls.specs.declared.Decoded.TheVariants.{Make}
+use Rattle.std.specs.Prelude.{Option, Some}
 use Rattle.run_calls.specs.Commands.{form_call, open_call, call_in}
 use Rattle.run_calls.specs.Made.{Made, MadeOpen}
 use Rattle.run_calls.proofs.Making.{form_other, made_gives}
@@ -55,7 +54,7 @@ module _ {areas calls : List ℕ} {first : FrameAllocator} {ws₀ answers₀ hel
   pub going_tested : (b : FrameAllocator) → b ≡ record_now number a h es → number ≡ checked b ws
   going_tested b e = s.reached.tested ∙ ap (λ (x : FrameAllocator). checked x ws) (sym e)
 
-  module _ (more : 3 * made + 3 ≤ length calls) (command : RunCall) (d : Decoded) (p : d ≡ decoded_at areas calls (3 * made)) (q : d ≡ Make command) (room : 5 * made + 5 ≤ length answers) where
+  module _ (more : 3 * made + 3 ≤ length calls) (command : RunCall) (d : Option RunCall) (p : d ≡ decoded_at areas calls (3 * made)) (q : d ≡ Some command) (room : 5 * made + 5 ≤ length answers) where
     -- a call that keeps the form
     pub going_kept : {c : OpenCall} → command ≡ Keep c → {x : Answered} {es-after ws-after held_after : List ℕ} → MadeOpen (open_call (length held) c) number h es ws held x es-after ws-after held_after →
         (answers-after : List ℕ) → answers-after ≡ take (5 * made) answers ++ answer_words x.answer ++ drop (5 * made + 5) answers →
@@ -63,7 +62,7 @@ module _ {areas calls : List ℕ} {first : FrameAllocator} {ws₀ answers₀ hel
         Going areas calls first ws₀ answers₀ held₀ number (made + 1) a x.header es-after ws-after answers-after held_after
     unfolding call_in
     going_kept {c} e {x} m answers-after w nw na nh ne = record {
-      reached = reached_next s.reached more (Keep c) d p (q ∙ ap Make e) room (made_record c number a h es ws held s.reached.tested s.stands m) answers-after w nw na nh;
+      reached = reached_next s.reached more (Keep c) d p (q ∙ ap Some e) room (made_record c number a h es ws held s.reached.tested s.stands m) answers-after w nw na nh;
       stands = made_standing c number a h es ws held s.reached.tested s.stands m;
       size = ne;
     }
@@ -78,4 +77,4 @@ module _ {areas calls : List ℕ} {first : FrameAllocator} {ws₀ answers₀ hel
     going_changed {c} e b k {called} {ws-after} g answers-after w nw na {h-after} {es-after} t ne =
         let g' : Gives (form_call areas c) (record_now number a h es) ws called ws-after = subst (λ (r : FrameAllocator). Gives (form_call areas c) r ws called ws-after) k g in
         let m : Made (form_call areas c) (record_now number a h es) ws held called ws-after held = made_gives (form_call areas c) (record_now number a h es) ws held (form_other areas c (length held)) g' in
-        apart_goes (reached_next s.reached more (Change c) d p (q ∙ ap Make e) room m answers-after w nw na refl) t ne
+        apart_goes (reached_next s.reached more (Change c) d p (q ∙ ap Some e) room m answers-after w nw na refl) t ne

@@ -9,15 +9,14 @@ use Rattle.model.specs.Calls.{Call}
 use Rattle.areas.proofs.Read.{next_three, none_left}
 use Rattle.run_calls.specs.Commands.{decoded, call_in}
 use Rattle.run_calls.specs.declared.RunCall.{RunCall}
-use Rattle.run_calls.specs.declared.Decoded.{Decoded}
-use Rattle.run_calls.specs.declared.Decoded.TheVariants.{Make, Damaged}
+use Rattle.std.specs.Prelude.{Option, Some, None}
 use Rattle.run.specs.declared.RunEnd.{RunEnd}
 use Rattle.run.specs.declared.RunEnd.TheVariants as end
 use Rattle.run.specs.Runs.{decoded_in, calls_in, end_of}
 
 module _ (areas calls : List ℕ) where
   -- the words of the next call
-  abbrev pub decoded_at : ℕ → Decoded
+  abbrev pub decoded_at : ℕ → Option RunCall
   decoded_at i = decoded (length areas) (get_or calls i 0) (get_or calls (i + 1) 0) (get_or calls (i + 2) 0)
 
   decoded_next : (made : ℕ) → 3 * made + 3 ≤ length calls → decoded_in areas (drop (3 * made) calls) ≡ decoded_at (3 * made) ∷ decoded_in areas (drop (3 * (made + 1)) calls)
@@ -40,32 +39,32 @@ module _ (areas calls : List ℕ) where
       module _ (h : length calls < 3 * made + 3) where
         pub left_done : left made ≡ []
         unfolding left calls_in
-        left_done = ap (λ (ds : List Decoded). take (room - made) (calls_in areas buffer ds)) (none_left (decoded (length areas)) calls (3 * made) h) ∙ take-nil (room - made)
+        left_done = ap (λ (ds : List (Option RunCall)). take (room - made) (calls_in areas buffer ds)) (none_left (decoded (length areas)) calls (3 * made) h) ∙ take-nil (room - made)
 
         pub end_done : end_left made ≡ end.Done
         unfolding end_left end_of
         end_done = ap (end_of (room - made)) (none_left (decoded (length areas)) calls (3 * made) h)
 
       module _ (h : 3 * made + 3 ≤ length calls) where
-        abbrev rest : List Decoded
+        abbrev rest : List (Option RunCall)
         rest = decoded_in areas (drop (3 * (made + 1)) calls)
 
         -- the next is damaged
-        module _ (e : decoded_at (3 * made) ≡ Damaged) where
-          heads : decoded_in areas (drop (3 * made) calls) ≡ Damaged ∷ rest
-          heads = decoded_next made h ∙ ap (λ (d : Decoded). d ∷ rest) e
+        module _ (e : decoded_at (3 * made) ≡ None) where
+          heads : decoded_in areas (drop (3 * made) calls) ≡ None ∷ rest
+          heads = decoded_next made h ∙ ap (λ (d : Option RunCall). d ∷ rest) e
 
           pub left_damaged : left made ≡ []
           unfolding left calls_in
-          left_damaged = ap (λ (ds : List Decoded). take (room - made) (calls_in areas buffer ds)) heads ∙ take-nil (room - made)
+          left_damaged = ap (λ (ds : List (Option RunCall)). take (room - made) (calls_in areas buffer ds)) heads ∙ take-nil (room - made)
 
           pub end_damaged : end_left made ≡ end.Damaged
           unfolding end_left end_of
           end_damaged = ap (end_of (room - made)) heads
 
-        module _ (c : RunCall) (e : decoded_at (3 * made) ≡ Make c) where
-          begins : decoded_in areas (drop (3 * made) calls) ≡ Make c ∷ rest
-          begins = decoded_next made h ∙ ap (λ (d : Decoded). d ∷ rest) e
+        module _ (c : RunCall) (e : decoded_at (3 * made) ≡ Some c) where
+          begins : decoded_in areas (drop (3 * made) calls) ≡ Some c ∷ rest
+          begins = decoded_next made h ∙ ap (λ (d : Option RunCall). d ∷ rest) e
 
           -- there is no room for its answer
           module _ (full : room ≤ made) where

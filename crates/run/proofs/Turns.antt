@@ -11,8 +11,7 @@ use Rattle.rules.specs.Check.{checked}
 use Rattle.run_calls.specs.Commands.{call_in}
 use Rattle.run_calls.specs.Made.{Made}
 use Rattle.run_calls.specs.declared.RunCall.{RunCall}
-use Rattle.run_calls.specs.declared.Decoded.{Decoded}
-use Rattle.run_calls.specs.declared.Decoded.TheVariants.{Make, Damaged}
+use Rattle.std.specs.Prelude.{Option, Some, None}
 use Rattle.rules.proofs.Lasting.{test_lasts}
 use Rattle.run.specs.declared.Ran.{Ran}
 use Rattle.run.specs.declared.RunEnd.{RunEnd}
@@ -67,13 +66,13 @@ module _ {areas calls : List ℕ} {first : FrameAllocator} {ws₀ answers₀ hel
       stops (left_done areas calls (length held₀) (length answers₀ / 5) made h) ends.Done (end_done areas calls (length held₀) (length answers₀ / 5) made h) r k
 
   module _ (h : 3 * made + 3 ≤ length calls) where
-    pub stops_damaged : (d : Decoded) → d ≡ decoded_at areas calls (3 * made) → d ≡ Damaged → (r : Ran) → r ≡ ran_to a made ends.Damaged → Runs areas calls first ws₀ answers₀ held₀ r ws answers held
+    pub stops_damaged : (d : Option RunCall) → d ≡ decoded_at areas calls (3 * made) → d ≡ None → (r : Ran) → r ≡ ran_to a made ends.Damaged → Runs areas calls first ws₀ answers₀ held₀ r ws answers held
     stops_damaged d p q r k =
         let e = sym p ∙ q in
         stops (left_damaged areas calls (length held₀) (length answers₀ / 5) made h e) ends.Damaged (end_damaged areas calls (length held₀) (length answers₀ / 5) made h e) r k
 
-    module _ (c : RunCall) (d : Decoded) (p : d ≡ decoded_at areas calls (3 * made)) (q : d ≡ Make c) where
-      next_is : decoded_at areas calls (3 * made) ≡ Make c
+    module _ (c : RunCall) (d : Option RunCall) (p : d ≡ decoded_at areas calls (3 * made)) (q : d ≡ Some c) where
+      next_is : decoded_at areas calls (3 * made) ≡ Some c
       next_is = sym p ∙ q
 
       pub stops_full : length answers < 5 * made + 5 → (r : Ran) → r ≡ ran_to a made ends.NoRoom → Runs areas calls first ws₀ answers₀ held₀ r ws answers held

@@ -10,8 +10,8 @@ use Rattle.entries.specs.declared.header.Header.{Header}
 use Rattle.packing.specs.Packed.{closed}
 use Rattle.run_calls.specs.Commands.{decoded, call_in}
 use Rattle.run_calls.specs.Made.{Left}
-use Rattle.run_calls.specs.declared.Decoded.{Decoded}
-use Rattle.run_calls.specs.declared.Decoded.TheVariants.{Make, Damaged}
+use Rattle.run_calls.specs.declared.RunCall.{RunCall}
+use Rattle.std.specs.Prelude.{Option, Some, None}
 use Rattle.run.specs.declared.Ending.{Ending}
 use Rattle.run.specs.declared.Ran.{Ran}
 use Rattle.run.specs.declared.RunEnd.{RunEnd}
@@ -20,25 +20,25 @@ use Rattle.run.specs.declared.RunEnd.TheVariants as end
 -- ---- the calls that are made
 
 -- three words each; one or two words that are left over are not read
-abbrev pub decoded_in : (areas calls : List ℕ) → List Decoded
+abbrev pub decoded_in : (areas calls : List ℕ) → List (Option RunCall)
 decoded_in areas calls = triples (decoded (length areas)) calls
 
 -- up to the first that is damaged
-unfoldable pub calls_in : (areas : List ℕ) (buffer : ℕ) → List Decoded → List Call
+unfoldable pub calls_in : (areas : List ℕ) (buffer : ℕ) → List (Option RunCall) → List Call
 calls_in areas buffer [] = []
-calls_in areas buffer (Make c ∷ ds) = call_in areas buffer c ∷ calls_in areas buffer ds
-calls_in areas buffer (Damaged ∷ ds) = []
+calls_in areas buffer (Some c ∷ ds) = call_in areas buffer c ∷ calls_in areas buffer ds
+calls_in areas buffer (None ∷ ds) = []
 
 -- and as many as there is room for, five words to an answer
 abbrev pub calls_made : (areas calls answers held : List ℕ) → List Call
 calls_made areas calls answers held = take (length answers / 5) (calls_in areas (length held) (decoded_in areas calls))
 
 -- why a run ends that has room for so many answers
-unfoldable pub end_of : (room : ℕ) → List Decoded → RunEnd
+unfoldable pub end_of : (room : ℕ) → List (Option RunCall) → RunEnd
 end_of room [] = end.Done
-end_of room (Damaged ∷ ds) = end.Damaged
-end_of zero (Make c ∷ ds) = end.NoRoom
-end_of (suc room) (Make c ∷ ds) = end_of room ds
+end_of room (None ∷ ds) = end.Damaged
+end_of zero (Some c ∷ ds) = end.NoRoom
+end_of (suc room) (Some c ∷ ds) = end_of room ds
 
 -- how a run ends and what it leaves of the record, together
 abbrev pub ran_with : Ending → FrameAllocator → Ran

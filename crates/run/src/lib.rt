@@ -8,7 +8,7 @@ ghost use Rattle.run.specs.Runs.{record_now, ran_with, answer_words, Runs};
 
 use entries::Header;
 use model::{Answer, FrameAllocator};
-use run_calls::{Decoded, RunCall};
+use run_calls::RunCall;
 
 // Why a run ended.
 #[derive(Clone, Copy)]
@@ -52,42 +52,23 @@ pub fn run(
     // The record as it was opened last: its lengths and its slots may be old ones.
     let mut allocator = a;
     let mut h = opened.header;
-    let mut made = 0;
-    while 3 <= calls.len() - 3 * made {
+    for made in 0..calls.len() / 3 {
         let i = 3 * made;
         let decoded = run_calls::decode(areas.len(), calls[i], calls[i + 1], calls[i + 2]);
-        let Decoded::Make(command) = decoded else {
-            return ended(
-                number,
-                allocator,
-                h,
-                &slots,
-                Ending {
-                    made,
-                    end: RunEnd::Damaged,
-                },
-            );
+        let Some(command) = decoded else {
+            let end = RunEnd::Damaged;
+            return ended(number, allocator, h, &slots, Ending { made, end });
         };
         let at = 5 * made;
         if answers.len() - at < 5 {
-            return ended(
-                number,
-                allocator,
-                h,
-                &slots,
-                Ending {
-                    made,
-                    end: RunEnd::NoRoom,
-                },
-            );
+            let end = RunEnd::NoRoom;
+            return ended(number, allocator, h, &slots, Ending { made, end });
         }
         match command {
             RunCall::Keep(call) => {
                 let done = run_calls::make_open(number, h, &mut slots, words, call, held);
                 put_answer(answers, at, done.answer);
                 h = done.header;
-                made += 1;
-                continue;
             }
             RunCall::Change(call) => {
                 let before = record_now(number, allocator, h, &slots);
@@ -95,21 +76,12 @@ pub fn run(
                 put_answer(answers, at, called.answer);
                 allocator = called.allocator;
                 h = packing::take_apart(allocator, &mut slots);
-                made += 1;
-                continue;
             }
         }
     }
-    ended(
-        number,
-        allocator,
-        h,
-        &slots,
-        Ending {
-            made,
-            end: RunEnd::Done,
-        },
-    )
+    let made = calls.len() / 3;
+    let end = RunEnd::Done;
+    ended(number, allocator, h, &slots, Ending { made, end })
 }
 
 // The record as the calls left it.

@@ -5,10 +5,7 @@ use mathlib.Core.Path.{◌≡◌, refl, sym}
 use mathlib.Core.Bool.{Bool, true, false}
 use lib.Dec.{leb}
 use borrow.Author.Tests.{leb-true, leb-false, le-leb, lt-leb}
-use Rattle.run_calls.specs.Commands.{are_listed, decoded_boot, decoded_byte_boot}
-use Rattle.run_calls.specs.declared.RunCall.TheVariants.{Change}
-use Rattle.run_calls.specs.declared.FormCall.TheVariants.{Boot, BootBytes}
-use Rattle.run_calls.specs.declared.Decoded.TheVariants.{Make, Damaged}
+use Rattle.run_calls.specs.Commands.{are_listed}
 
 module _ (n first count : ℕ) where
   -- the areas are counted, so that nothing is added or multiplied
@@ -23,19 +20,3 @@ module _ (n first count : ℕ) where
   pub listed_none : n / 3 < first → false ≡ are_listed n first count
   unfolding are_listed
   listed_none h = sym (lt-leb (3 * (first + count)) n (omega arith))
-
-  pub boot_listed : are_listed n first count ≡ true → Make (Change (Boot first count)) ≡ decoded_boot n first count
-  unfolding decoded_boot
-  boot_listed e = rw e
-
-  pub boot_damaged : are_listed n first count ≡ false → Damaged ≡ decoded_boot n first count
-  unfolding decoded_boot
-  boot_damaged e = rw e
-
-  pub byte_boot_listed : are_listed n first count ≡ true → Make (Change (BootBytes first count)) ≡ decoded_byte_boot n first count
-  unfolding decoded_byte_boot
-  byte_boot_listed e = rw e
-
-  pub byte_boot_damaged : are_listed n first count ≡ false → Damaged ≡ decoded_byte_boot n first count
-  unfolding decoded_byte_boot
-  byte_boot_damaged e = rw e

@@ -25,6 +25,7 @@ use Rattle.rules.proofs.Numbers.{short_call, gives_refused}
 use Rattle.rules.specs.Check as rules
 use Rattle.rules.proofs.Going.{gives_does}
 use Rattle.boot.specs.Boots.{boot_call_of}
+use Rattle.areas.specs.declared.AreaUnit.{AreaUnit}
 use Rattle.areas.specs.declared.AreaUnit.TheVariants as unit
 use Rattle.query_core.specs.Listed as query
 use Rattle.model.specs.Returns.{sort}
@@ -39,7 +40,7 @@ use Rattle.requests.specs.Asked as asked
 use Rattle.requests.specs.declared.Request.{Request}
 use Rattle.requests.specs.declared.Request.TheVariants.{Frames, Bytes, FramesAt, BytesAt, GeneralFramesAt}
 use Rattle.run_calls.specs.declared.FormCall.{FormCall}
-use Rattle.run_calls.specs.declared.FormCall.TheVariants.{Boot, BootBytes, Sort}
+use Rattle.run_calls.specs.declared.FormCall.TheVariants.{Boot, Sort}
 use Rattle.run_calls.specs.declared.OpenCall.{OpenCall}
 use Rattle.run_calls.specs.declared.OpenCall.TheVariants.{Allocate, Return, KindOf, FreeTotal, HeldList}
 use Rattle.run_calls.specs.Commands.{are_listed, Listed, areas_at, form_call, open_call}
@@ -47,14 +48,9 @@ use Rattle.run_calls.specs.Made.{number_for, Made, LeftOpen, MadeOpen, done}
 
 -- ---- a boot's areas: the part of the list from one word to another
 
-module _ (n first count : ℕ) (c : FormCall) where
-  pub boot_in_list : c ≡ Boot first count → Listed n c → are_listed n first count ≡ true
-  unfolding Listed
-  boot_in_list e h = subst (λ (x : FormCall). Listed n x) e h
-
-  pub byte_boot_in_list : c ≡ BootBytes first count → Listed n c → are_listed n first count ≡ true
-  unfolding Listed
-  byte_boot_in_list e h = subst (λ (x : FormCall). Listed n x) e h
+pub boot_in_list : (n first count : ℕ) (u : AreaUnit) (c : FormCall) → c ≡ Boot u first count → Listed n c → are_listed n first count ≡ true
+unfolding Listed
+boot_in_list n first count u c e h = subst (λ (x : FormCall). Listed n x) e h
 
 module _ (n first count : ℕ) (e : are_listed n first count ≡ true) where
   pub areas_end : 3 * first + 3 * count ≤ n
@@ -69,15 +65,15 @@ areas_part first count areas =
 
 -- a call that may change the form is no held list, and has no buffer
 pub form_long : (areas : List ℕ) (c : FormCall) → short_buffer (form_call areas c) ≡ false
-unfolding form_call short_buffer
-form_long areas (Boot first count) = refl
-form_long areas (BootBytes first count) = refl
+unfolding form_call boot_call_of short_buffer
+form_long areas (Boot unit.Frames first count) = refl
+form_long areas (Boot unit.Bytes first count) = refl
 form_long areas Sort = refl
 
 pub form_other : (areas : List ℕ) (c : FormCall) (n : ℕ) → form_call areas c ≡ held_call n → ⊥
-unfolding form_call
-form_other areas (Boot first count) n e = let w : ◌≡◌ {A = ℕ} 0 1 = cc in omega arith
-form_other areas (BootBytes first count) n e = let w : ◌≡◌ {A = ℕ} 0 1 = cc in omega arith
+unfolding form_call boot_call_of
+form_other areas (Boot unit.Frames first count) n e = let w : ◌≡◌ {A = ℕ} 0 1 = cc in omega arith
+form_other areas (Boot unit.Bytes first count) n e = let w : ◌≡◌ {A = ℕ} 0 1 = cc in omega arith
 form_other areas Sort n e = let w : ◌≡◌ {A = ℕ} 0 1 = cc in omega arith
 
 -- ---- the number that decides
@@ -221,13 +217,9 @@ module _ (areas : List ℕ) {c : FormCall} {a : FrameAllocator} {ws after : List
   form_as : {known : FormCall} → c ≡ known → Gives (form_call areas known) a ws called after → Gives (form_call areas c) a ws called after
   form_as e g = subst (λ (x : FormCall). Gives (form_call areas x) a ws called after) (sym e) g
 
-  pub boot_gives : {first count : ℕ} → c ≡ Boot first count → Gives (boot_call_of unit.Frames (areas_at first count areas)) a ws called after → Gives (form_call areas c) a ws called after
-  unfolding form_call boot_call_of
+  pub boot_gives : {u : AreaUnit} {first count : ℕ} → c ≡ Boot u first count → Gives (boot_call_of u (areas_at first count areas)) a ws called after → Gives (form_call areas c) a ws called after
+  unfolding form_call
   boot_gives e g = form_as e g
-
-  pub byte_boot_gives : {first count : ℕ} → c ≡ BootBytes first count → Gives (boot_call_of unit.Bytes (areas_at first count areas)) a ws called after → Gives (form_call areas c) a ws called after
-  unfolding form_call boot_call_of
-  byte_boot_gives e g = form_as e g
 
   pub sort_gives : c ≡ Sort → checked a ws ≡ 0 → rules.Does (sort (load a ws)) ws called after → Gives (form_call areas c) a ws called after
   unfolding form_call answer short_buffer

@@ -1,21 +1,20 @@
 -- A call that is decoded can be made.
 use Prim.Native.Nat.{ℕ}
+use Rattle.std.specs.Prelude.{Option, Some, None}
 use mathlib.Core.Path.{◌≡◌, sym, subst}
 use lib.Dec.{eqb}
 use Rattle.memory_structs.proofs.Bools.{if_cases}
 use Rattle.run_calls.specs.declared.RunCall.{RunCall}
 use Rattle.run_calls.specs.declared.RunCall.TheVariants.{Change}
 use Rattle.run_calls.specs.declared.FormCall.{FormCall}
-use Rattle.run_calls.specs.declared.Decoded.{Decoded}
-use Rattle.run_calls.specs.declared.Decoded.TheVariants.{Make, Damaged}
-use Rattle.run_calls.specs.Commands.{are_listed, decoded_boot, decoded_byte_boot, decoded, Listed, InList}
+use Rattle.run_calls.specs.Commands.{are_listed, decoded_boot, decoded, Listed, InList}
 
-unfoldable Sound : ℕ → Decoded → Type 0
-Sound n (Make c) = InList n c
-Sound n Damaged = Unit {0}
+unfoldable Sound : ℕ → Option RunCall → Type 0
+Sound n (Some c) = InList n c
+Sound n None = Unit {0}
 
 sound : (n what x y : ℕ) → Sound n (decoded n what x y)
-unfolding decoded decoded_boot decoded_byte_boot Sound InList Listed
+unfolding decoded decoded_boot Sound InList Listed
 sound n what x y =
     if_cases (Sound n) (eqb what 0) (λ e. if_cases (Sound n) (are_listed n x y) (λ l. l) (λ l. tt))
     (λ e. if_cases (Sound n) (eqb what 1) (λ e. if_cases (Sound n) (are_listed n x y) (λ l. l) (λ l. tt))
@@ -30,11 +29,11 @@ sound n what x y =
     (λ e. if_cases (Sound n) (eqb what 10) (λ e. tt)
     (λ e. if_cases (Sound n) (eqb what 11) (λ e. tt) (λ e. tt))))))))))))
 
-pub decoded_in_list : (n what x y : ℕ) (c : RunCall) → Make c ≡ decoded n what x y → InList n c
+pub decoded_in_list : (n what x y : ℕ) (c : RunCall) → Some c ≡ decoded n what x y → InList n c
 unfolding Sound
 decoded_in_list n what x y c e = subst (Sound n) (sym e) (sound n what x y)
 
 -- and what is decoded as a call that may change the form has its areas in the list
-pub form_in_list : (n what x y : ℕ) (c : FormCall) → Make (Change c) ≡ decoded n what x y → Listed n c
+pub form_in_list : (n what x y : ℕ) (c : FormCall) → Some (Change c) ≡ decoded n what x y → Listed n c
 unfolding InList
 form_in_list n what x y c e = decoded_in_list n what x y (Change c) e

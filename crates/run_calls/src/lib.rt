@@ -29,8 +29,7 @@ pub enum RunCall {
 #[derive(Clone, Copy)]
 pub enum FormCall {
     // So many areas of the lent list, from this one on.
-    Boot(usize, usize),
-    BootBytes(usize, usize),
+    Boot { unit: AreaUnit, first: usize, count: usize },
     Sort,
 }
 
@@ -44,60 +43,50 @@ pub enum OpenCall {
     HeldList,
 }
 
-// What three words are.
-#[derive(Clone, Copy)]
-pub enum Decoded {
-    Make(RunCall),
-    Damaged,
-}
-
-// Words that the call doesn't use are not looked at.
-pub fn decode(areas_len: usize, what: u64, x: u64, y: u64) -> Decoded
+// Words that the call doesn't use are not looked at. `None` where the first is no call, and for a boot whose areas are not all in the
+// list: such a call is damaged.
+#[tactic(auto, unfolding(crate::specs::Commands::decoded))]
+pub fn decode(areas_len: usize, what: u64, x: u64, y: u64) -> Option<RunCall>
     ensures { result ≡ spec.decoded areas_len what x y }
 {
     match what {
-        0 => decode_boot(areas_len, x, y),
-        1 => decode_byte_boot(areas_len, x, y),
-        2 => Decoded::Make(RunCall::Change(FormCall::Sort)),
-        3 => Decoded::Make(RunCall::Keep(OpenCall::Allocate(Request::Frames { num_frames: x }))),
-        4 => Decoded::Make(RunCall::Keep(OpenCall::Allocate(Request::Bytes { num_bytes: x }))),
-        5 => Decoded::Make(RunCall::Keep(OpenCall::Allocate(Request::FramesAt {
+        0 => decode_boot(AreaUnit::Frames, areas_len, x, y),
+        1 => decode_boot(AreaUnit::Bytes, areas_len, x, y),
+        2 => Some(RunCall::Change(FormCall::Sort)),
+        3 => Some(RunCall::Keep(OpenCall::Allocate(Request::Frames { num_frames: x }))),
+        4 => Some(RunCall::Keep(OpenCall::Allocate(Request::Bytes { num_bytes: x }))),
+        5 => Some(RunCall::Keep(OpenCall::Allocate(Request::FramesAt {
             frame: x,
             num_frames: y,
         }))),
-        6 => Decoded::Make(RunCall::Keep(OpenCall::Allocate(Request::BytesAt {
+        6 => Some(RunCall::Keep(OpenCall::Allocate(Request::BytesAt {
             address: x,
             num_bytes: y,
         }))),
-        7 => Decoded::Make(RunCall::Keep(OpenCall::Allocate(Request::GeneralFramesAt {
+        7 => Some(RunCall::Keep(OpenCall::Allocate(Request::GeneralFramesAt {
             frame: x,
             num_frames: y,
         }))),
-        8 => Decoded::Make(RunCall::Keep(OpenCall::Return(FrameRange::new(x, y)))),
-        9 => Decoded::Make(RunCall::Keep(OpenCall::KindOf(FrameRange::new(x, y)))),
-        10 => Decoded::Make(RunCall::Keep(OpenCall::FreeTotal(areas::kind_of(x)))),
-        11 => Decoded::Make(RunCall::Keep(OpenCall::HeldList)),
-        _ => Decoded::Damaged,
+        8 => Some(RunCall::Keep(OpenCall::Return(FrameRange::new(x, y)))),
+        9 => Some(RunCall::Keep(OpenCall::KindOf(FrameRange::new(x, y)))),
+        10 => Some(RunCall::Keep(OpenCall::FreeTotal(areas::kind_of(x)))),
+        11 => Some(RunCall::Keep(OpenCall::HeldList)),
+        _ => None,
     }
 }
 
-// A boot whose areas are not all in the list is damaged.
-fn decode_boot(areas_len: usize, first: u64, count: u64) -> Decoded
-    ensures { result ≡ spec.decoded_boot areas_len first count }
+#[tactic(auto, unfolding(crate::specs::Commands::decoded_boot))]
+fn decode_boot(unit: AreaUnit, areas_len: usize, first: u64, count: u64) -> Option<RunCall>
+    ensures { result ≡ spec.decoded_boot unit areas_len first count }
 {
-    if are_listed(areas_len, first, count) {
-        return Decoded::Make(RunCall::Change(FormCall::Boot(first as usize, count as usize)));
+    if !are_listed(areas_len, first, count) {
+        return None;
     }
-    Decoded::Damaged
-}
-
-fn decode_byte_boot(areas_len: usize, first: u64, count: u64) -> Decoded
-    ensures { result ≡ spec.decoded_byte_boot areas_len first count }
-{
-    if are_listed(areas_len, first, count) {
-        return Decoded::Make(RunCall::Change(FormCall::BootBytes(first as usize, count as usize)));
-    }
-    Decoded::Damaged
+    Some(RunCall::Change(FormCall::Boot {
+        unit,
+        first: first as usize,
+        count: count as usize,
+    }))
 }
 
 // Whether so many areas from this one on stand in a list of so many words. The sum of the two numbers may be above what a word holds.
@@ -128,32 +117,13 @@ pub fn change_form(
         return rules::refused(a, number);
     }
     match call {
-        FormCall::Boot(first, count) => {
-            boot_listed(a, words, areas, AreaUnit::Frames, first, count)
-        }
-        FormCall::BootBytes(first, count) => {
-            boot_listed(a, words, areas, AreaUnit::Bytes, first, count)
+        FormCall::Boot { unit, first, count } => {
+            let from = 3 * first;
+            let to = from + 3 * count;
+            boot::boot_words(a, &areas[from..to], unit, words)
         }
         FormCall::Sort => sort::sort_record(a, words),
     }
-}
-
-// A boot of so many areas of the list, from this one on.
-fn boot_listed(
-    a: FrameAllocator,
-    words: &[u64],
-    areas: &[u64],
-    unit: AreaUnit,
-    first: usize,
-    count: usize,
-) -> Called
-    requires ruled { Ruled a words.now }
-    requires count_value { spec.are_listed (length areas.now) first count ≡ true }
-    ensures { Gives (boot_call_of unit (areas_at first count areas.now)) a words.now result words.now }
-{
-    let from = 3 * first;
-    let to = from + 3 * count;
-    boot::boot_words(a, &areas[from..to], unit, words)
 }
 
 // Makes a call that keeps the form, on the allocator as it stands open; by the test's number, or 3 for a held list whose buffer is too

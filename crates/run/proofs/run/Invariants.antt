@@ -1,12 +1,7 @@
 -- `run`: at each turn the calls made so far, and those that are left, are the calls of the list, and the record stands open.
-use Prim.Native.Nat.{◌*◌, ◌-◌}
-use lib.ListN.{length}
 use Rattle.run.proofs.Going.{Going}
 use Rattle.run.proofs.run.Given as goal
 
 abbrev pub invariant-loop-made : goal.invariant-loop-made
 invariant-loop-made l =
     Going l.areas l.calls l.initial.allocator l.initial.words l.initial.answers l.initial.held l.number l.made l.allocator l.h l.slots l.words l.answers l.held
-
-abbrev pub decreases-loop-made : goal.decreases-loop-made
-decreases-loop-made l = length l.calls - 3 * l.made
