@@ -53,25 +53,19 @@ pub fn held_list(a: FrameAllocator, words: &[u64], buffer: &mut [u64]) -> Answer
     list_held(opened.header, &slots, words, buffer)
 }
 
-// The same of an allocator that stands open, whose entries are the workspace in sorted form and the slots in early form.
+// The same of an allocator that stands open.
 pub fn kind(h: Header, slots: &[u64], words: &[u64], range: FrameRange) -> Answer
     requires { Ruled h (lent h.sorted slots.now words.now) }
     ensures { result ≡ (kind_of range (lists_in h (lent h.sorted slots.now words.now))).answer }
 {
-    if h.sorted {
-        return query_core::kind(h, words, range);
-    }
-    query_core::kind(h, slots, range)
+    query_core::kind(h, entries_of(h, slots, words), range)
 }
 
 pub fn free_frames(h: Header, slots: &[u64], words: &[u64], kind: Kind) -> Answer
     requires { Ruled h (lent h.sorted slots.now words.now) }
     ensures { result ≡ (total kind (lists_in h (lent h.sorted slots.now words.now))).answer }
 {
-    if h.sorted {
-        return query_core::free_total(h, words, kind);
-    }
-    query_core::free_total(h, slots, kind)
+    query_core::free_total(h, entries_of(h, slots, words), kind)
 }
 
 pub fn list_held(h: Header, slots: &[u64], words: &[u64], buffer: &mut [u64]) -> Answer
@@ -79,8 +73,13 @@ pub fn list_held(h: Header, slots: &[u64], words: &[u64], buffer: &mut [u64]) ->
     requires in_bounds { 2048 ≤ length buffer.old }
     ensures { Listed (lists_in h (lent h.sorted slots.now words.now)) buffer.old result buffer.new }
 {
-    if h.sorted {
-        return query_core::held_list(h, words, buffer);
-    }
-    query_core::held_list(h, slots, buffer)
+    query_core::held_list(h, entries_of(h, slots, words), buffer)
+}
+
+// Its entries: the workspace in sorted form, the slots in early form.
+#[tactic(auto, unfolding(packing::specs::Open::lent))]
+fn entries_of<'a>(h: Header, slots: &'a [u64], words: &'a [u64]) -> &'a [u64]
+    ensures { result.now ≡ lent h.sorted slots.now words.now }
+{
+    if h.sorted { words } else { slots }
 }
