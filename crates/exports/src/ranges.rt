@@ -5,14 +5,14 @@ ghost use Rattle.memory_structs.specs.FrameCalls.{merge, split_range, split_at};
 ghost use Rattle.range_answers.specs.Words.{Written, unit_words, number_words, range_words, split_words, halves_words};
 
 use memory_structs::FrameRange;
-use range_answers::{put_halves, put_number, put_range, put_split, put_test};
+use range_answers::put;
 
 // out: found, size.
 #[unsafe(no_mangle)]
 pub extern "C" fn likhmout_size_in_frames(start: u64, end: u64, out: &mut [u64; 2]) -> u64
     ensures { Written number_words (size_in_frames (range start end)) result out.new }
 {
-    put_number(FrameRange::new(start, end).size_in_frames(), out)
+    put(FrameRange::new(start, end).size_in_frames().map(Some), out)
 }
 
 // out: found.
@@ -26,8 +26,10 @@ pub extern "C" fn likhmout_contains_range(
 ) -> u64
     ensures { Written unit_words (contains_range (range start end) (range other_start other_end)) result out.new }
 {
-    put_test(
-        FrameRange::new(start, end).contains_range(FrameRange::new(other_start, other_end)),
+    put(
+        FrameRange::new(start, end)
+            .contains_range(FrameRange::new(other_start, other_end))
+            .map(|found| if found { Some(()) } else { None }),
         out,
     )
 }
@@ -43,7 +45,7 @@ pub extern "C" fn likhmout_overlap(
 ) -> u64
     ensures { Written range_words (overlap (range start end) (range other_start other_end)) result out.new }
 {
-    put_range(
+    put(
         FrameRange::new(start, end).overlap(FrameRange::new(other_start, other_end)),
         out,
     )
@@ -54,7 +56,10 @@ pub extern "C" fn likhmout_overlap(
 pub extern "C" fn likhmout_to_extended(start: u64, end: u64, frame: u64, out: &mut [u64; 3]) -> u64
     ensures { Written range_words (to_extended (range start end) frame) result out.new }
 {
-    put_range(FrameRange::new(start, end).to_extended(frame), out)
+    put(
+        FrameRange::new(start, end).to_extended(frame).map(Some),
+        out,
+    )
 }
 
 // out: found, start, end.
@@ -62,7 +67,7 @@ pub extern "C" fn likhmout_to_extended(start: u64, end: u64, frame: u64, out: &m
 pub extern "C" fn likhmout_from_phys_addr(address: u64, bytes: u64, out: &mut [u64; 3]) -> u64
     ensures { Written range_words (from_phys_addr address bytes) result out.new }
 {
-    put_range(FrameRange::from_phys_addr(address, bytes), out)
+    put(FrameRange::from_phys_addr(address, bytes).map(Some), out)
 }
 
 // out: found, offset.
@@ -75,7 +80,7 @@ pub extern "C" fn likhmout_offset_of_address(
 ) -> u64
     ensures { Written number_words (offset_of_address (range start end) address) result out.new }
 {
-    put_number(FrameRange::new(start, end).offset_of_address(address), out)
+    put(FrameRange::new(start, end).offset_of_address(address), out)
 }
 
 // out: found, address.
@@ -88,7 +93,7 @@ pub extern "C" fn likhmout_address_at_offset(
 ) -> u64
     ensures { Written number_words (address_at_offset (range start end) offset) result out.new }
 {
-    put_number(FrameRange::new(start, end).address_at_offset(offset), out)
+    put(FrameRange::new(start, end).address_at_offset(offset), out)
 }
 
 // out: found, start, end.
@@ -102,7 +107,7 @@ pub extern "C" fn likhmout_merge(
 ) -> u64
     ensures { Written range_words (merge (range start end) (range other_start other_end)) result out.new }
 {
-    put_range(
+    put(
         FrameRange::new(start, end).merge(FrameRange::new(other_start, other_end)),
         out,
     )
@@ -119,7 +124,7 @@ pub extern "C" fn likhmout_split_range(
 ) -> u64
     ensures { Written split_words (split_range (range start end) (range extract_start extract_end)) result out.new }
 {
-    put_split(
+    put(
         FrameRange::new(start, end).split_range(FrameRange::new(extract_start, extract_end)),
         out,
     )
@@ -130,5 +135,5 @@ pub extern "C" fn likhmout_split_range(
 pub extern "C" fn likhmout_split_at(start: u64, end: u64, frame: u64, out: &mut [u64; 5]) -> u64
     ensures { Written halves_words (split_at (range start end) frame) result out.new }
 {
-    put_halves(FrameRange::new(start, end).split_at(frame), out)
+    put(FrameRange::new(start, end).split_at(frame), out)
 }

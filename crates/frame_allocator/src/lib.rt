@@ -9,9 +9,7 @@ ghost use Rattle.run.specs.Runs.{ran_with, Runs};
 pub mod by_value;
 
 pub use lists::fresh;
-pub use memory_structs::{
-    FrameRange, Halves, MaybeHalves, MaybeNumber, MaybeRange, MaybeSplit, SplitFrames, YesNo,
-};
+pub use memory_structs::{FrameRange, Halves, OutOfBounds, SplitFrames};
 pub use model::{Answer, Area, ByteArea, Called, FrameAllocator, Kind};
 pub use queries::{free_total, held_list, kind_of_range};
 pub use requests::Request;

@@ -1,112 +1,127 @@
 // Answers as words: 1 for yes, 0 for no and for 2, then the value, a range as its start and end. The number is returned.
 #![tactic(auto)]
 
-ghost use Rattle.memory_structs.specs.Answers.{shown_test, shown_number, shown_range, shown_split, shown_halves};
+ghost use Rattle.std.specs.Prelude.{◌≡◌, ℕ, List, ◌∷◌};
+ghost use Rattle.memory_structs.specs.Range.{empty};
+ghost use Rattle.memory_structs.specs.Answers.{shown, no_parts, no_halves};
 ghost use Rattle.range_answers.specs.Words.{Written, unit_words, number_words, range_words, split_words, halves_words};
 
-use memory_structs::{MaybeHalves, MaybeNumber, MaybeRange, MaybeSplit, YesNo};
+use memory_structs::{FrameRange, Halves, OutOfBounds, SplitFrames};
 
 // Document 01's number for what is out of bounds.
 const OUT_OF_BOUNDS: u64 = 2;
 
-pub fn put_test(answer: YesNo, out: &mut [u64; 1]) -> u64
-    ensures { Written unit_words (shown_test answer) result out.new }
-{
-    match answer {
-        YesNo::OutOfBounds => {
-            *out = [0];
-            OUT_OF_BOUNDS
-        }
-        YesNo::No => {
-            *out = [0];
-            0
-        }
-        YesNo::Yes => {
-            *out = [1];
-            0
-        }
+// A value that an answer may show; with the word before it that says whether there is one, it takes N words.
+pub trait Shows<const N: usize> {
+    ghost words: { Self → List ℕ };
+
+    // "a no and an absent part show [1,0], or 0 where a number is returned"
+    ghost NONE: { Self };
+
+    const NONE: Self;
+
+    fn put(self, found: u64, out: &mut [u64; N])
+        ensures { out.new ≡ found ∷ words self };
+}
+
+impl Shows<1> for () {
+    ghost words = { unit_words };
+
+    ghost NONE = { tt };
+
+    const NONE: () = ();
+
+    fn put(self, found: u64, out: &mut [u64; 1]) {
+        *out = [found];
     }
 }
 
-pub fn put_number(answer: MaybeNumber, out: &mut [u64; 2]) -> u64
-    ensures { Written number_words (shown_number answer) result out.new }
-{
-    match answer {
-        MaybeNumber::OutOfBounds => {
-            *out = [0, 0];
-            OUT_OF_BOUNDS
-        }
-        MaybeNumber::Nothing => {
-            *out = [0, 0];
-            0
-        }
-        MaybeNumber::Number(n) => {
-            *out = [1, n];
-            0
-        }
+impl Shows<2> for u64 {
+    ghost words = { number_words };
+
+    ghost NONE = { 0 };
+
+    const NONE: u64 = 0;
+
+    fn put(self, found: u64, out: &mut [u64; 2]) {
+        *out = [found, self];
     }
 }
 
-pub fn put_range(answer: MaybeRange, out: &mut [u64; 3]) -> u64
-    ensures { Written range_words (shown_range answer) result out.new }
-{
-    match answer {
-        MaybeRange::OutOfBounds => {
-            *out = [0, 1, 0];
-            OUT_OF_BOUNDS
-        }
-        MaybeRange::Nothing => {
-            *out = [0, 1, 0];
-            0
-        }
-        MaybeRange::Range(r) => {
-            *out = [1, r.start, r.end];
-            0
-        }
+impl Shows<3> for FrameRange {
+    ghost words = { range_words };
+
+    ghost NONE = { empty };
+
+    const NONE: FrameRange = FrameRange::EMPTY;
+
+    fn put(self, found: u64, out: &mut [u64; 3]) {
+        *out = [found, self.start, self.end];
     }
 }
 
-pub fn put_split(answer: MaybeSplit, out: &mut [u64; 7]) -> u64
-    ensures { Written split_words (shown_split answer) result out.new }
-{
-    match answer {
-        MaybeSplit::OutOfBounds => {
-            *out = [0, 1, 0, 1, 0, 1, 0];
-            OUT_OF_BOUNDS
-        }
-        MaybeSplit::Nothing => {
-            *out = [0, 1, 0, 1, 0, 1, 0];
-            0
-        }
-        MaybeSplit::Split(s) => {
-            *out = [
-                1,
-                s.before_start.start,
-                s.before_start.end,
-                s.start_to_end.start,
-                s.start_to_end.end,
-                s.after_end.start,
-                s.after_end.end,
-            ];
-            0
-        }
+impl Shows<5> for Halves {
+    ghost words = { halves_words };
+
+    ghost NONE = { no_halves };
+
+    const NONE: Halves = Halves {
+        first: FrameRange::EMPTY,
+        second: FrameRange::EMPTY,
+    };
+
+    fn put(self, found: u64, out: &mut [u64; 5]) {
+        *out = [
+            found,
+            self.first.start,
+            self.first.end,
+            self.second.start,
+            self.second.end,
+        ];
     }
 }
 
-pub fn put_halves(answer: MaybeHalves, out: &mut [u64; 5]) -> u64
-    ensures { Written halves_words (shown_halves answer) result out.new }
+impl Shows<7> for SplitFrames {
+    ghost words = { split_words };
+
+    ghost NONE = { no_parts };
+
+    const NONE: SplitFrames = SplitFrames {
+        before_start: FrameRange::EMPTY,
+        start_to_end: FrameRange::EMPTY,
+        after_end: FrameRange::EMPTY,
+    };
+
+    fn put(self, found: u64, out: &mut [u64; 7]) {
+        *out = [
+            found,
+            self.before_start.start,
+            self.before_start.end,
+            self.start_to_end.start,
+            self.start_to_end.end,
+            self.after_end.start,
+            self.after_end.end,
+        ];
+    }
+}
+
+pub fn put<T: Shows<N>, const N: usize>(
+    answer: Result<Option<T>, OutOfBounds>,
+    out: &mut [u64; N],
+) -> u64
+    ensures { Written T.words (shown T.NONE answer) result out.new }
 {
     match answer {
-        MaybeHalves::OutOfBounds => {
-            *out = [0, 1, 0, 1, 0];
+        Err(OutOfBounds) => {
+            T::NONE.put(0, out);
             OUT_OF_BOUNDS
         }
-        MaybeHalves::Nothing => {
-            *out = [0, 1, 0, 1, 0];
+        Ok(None) => {
+            T::NONE.put(0, out);
             0
         }
-        MaybeHalves::Halved(h) => {
-            *out = [1, h.first.start, h.first.end, h.second.start, h.second.end];
+        Ok(Some(value)) => {
+            value.put(1, out);
             0
         }
     }
