@@ -11,8 +11,8 @@ use Rattle.std.specs.Prelude.{if◌then◌else◌}
 use Rattle.memory_structs.specs.Range.{meets}
 use Rattle.memory_structs.specs.declared.range.FrameRange.{FrameRange}
 use Rattle.model.specs.Lists.{Slot, unused, used, entries, any_of, later, or_else, last_where, range_at}
-use Rattle.model.specs.declared.Place.{Place}
-use Rattle.model.specs.declared.Place.TheVariants.{Nowhere, At}
+use Rattle.std.specs.Prelude.{Option}
+use Rattle.std.specs.Prelude.{None, Some}
 use Rattle.tables.proofs.Search.{leb_same}
 use Rattle.model.specs.Rules.{tidy}
 use Rattle.model.specs.Store.{slots_of, table_slots}
@@ -23,9 +23,9 @@ use Rattle.lists.specs.One.{slots_in}
 use Rattle.lists.proofs.One.{at_sorted, at_early}
 
 -- the entry at a place ends at m or above
-unfoldable pub reaches : ℕ → List Slot → Place → Bool
-reaches m s Nowhere = false
-reaches m s (At i) = leb m (range_at s i).end
+unfoldable pub reaches : ℕ → List Slot → Option ℕ → Bool
+reaches m s None = false
+reaches m s (Some i) = leb m (range_at s i).end
 
 ends_above : (m : ℕ) (s : List Slot) (i : ℕ) → Spaced m s → i < length s → m ≤ (range_at s i).end
 unfolding Spaced range_at
@@ -51,20 +51,20 @@ highest_meets r h m [] a = refl
 highest_meets r h m (unused ∷ s) a = absurd a
 highest_meets r h m (used c ∷ s) a = go (last_where (λ x. leb x.start r.end) s) refl (highest_meets r h (c.end + 1) s a.2)
   where
-    shown : (b : Bool) → (if b then leb r.start c.end else false) ≡ reaches r.start (used c ∷ s) (if b then At 0 else Nowhere)
+    shown : (b : Bool) → (if b then leb r.start c.end else false) ≡ reaches r.start (used c ∷ s) (if b then Some 0 else None)
     shown true = refl
     shown false = refl
 
-    go : (q : Place) → last_where (λ x. leb x.start r.end) s ≡ q → any_of (meets r) (entries s) ≡ reaches r.start s q
-        → (meets r c || any_of (meets r) (entries s)) ≡ reaches r.start (used c ∷ s) (or_else (later q) (if leb c.start r.end then At 0 else Nowhere))
-    go Nowhere e ih = ap (λ (b : Bool). meets r c || b) ih ∙ alone r c (leb c.start r.end) refl h a.1 ∙ shown (leb c.start r.end)
-    go (At j) e ih =
+    go : (q : Option ℕ) → last_where (λ x. leb x.start r.end) s ≡ q → any_of (meets r) (entries s) ≡ reaches r.start s q
+        → (meets r c || any_of (meets r) (entries s)) ≡ reaches r.start (used c ∷ s) (or_else (later q) (if leb c.start r.end then Some 0 else None))
+    go None e ih = ap (λ (b : Bool). meets r c || b) ih ∙ alone r c (leb c.start r.end) refl h a.1 ∙ shown (leb c.start r.end)
+    go (Some j) e ih =
         ap (λ (b : Bool). meets r c || b) ih
         ∙ either r c (range_at s j).end (meets r c) refl (omega (arith, ends_above (c.end + 1) s j a.2 (last_bound (λ x. leb x.start r.end) s j e)))
 
 -- the two forms
 pub met_table : (r : FrameRange) (n : ℕ) (ws : List ℕ) → r.start ≤ r.end → tidy true (table_slots n ws) ≡ true
-    → (q : Place) → q ≡ last_where (λ c. leb c.start r.end) (table_slots n ws) → reaches r.start (table_slots n ws) q ≡ any_of (meets r) (entries (table_slots n ws))
+    → (q : Option ℕ) → q ≡ last_where (λ c. leb c.start r.end) (table_slots n ws) → reaches r.start (table_slots n ws) q ≡ any_of (meets r) (entries (table_slots n ws))
 met_table r n ws h t q found = ap (reaches r.start (table_slots n ws)) found ∙ sym (highest_meets r h 0 (table_slots n ws) (tidy_spaced (table_slots n ws) t))
 
 pub met_sorted : (r : FrameRange) (l : OneList) (ws : List ℕ) → l.sorted ≡ true → any_of (meets r) (entries (table_slots l.len ws)) ≡ any_of (meets r) (entries (slots_in l ws))

@@ -14,7 +14,7 @@ mod record;
 
 use early::Wanted;
 use memory_structs::FrameRange;
-use model::{EarlyList, Place};
+use model::EarlyList;
 pub use record::{WhichList, fresh, list_of, part_of, record_of, unused_slots, with_list};
 
 // In sorted form the list is the first `len` pairs of the table that is lent beside it, and every slot is unused.
@@ -37,7 +37,7 @@ pub fn count(l: OneList, t: &[u64]) -> usize
 }
 
 // The chunk that a request for n frames is taken from: the first that is large enough, in sorted form the highest.
-pub fn find_large(l: OneList, t: &[u64], n: u64) -> Place
+pub fn find_large(l: OneList, t: &[u64], n: u64) -> Option<usize>
     requires { IsList l t.now }
     ensures { result ≡ large_enough l.sorted n (slots_in l t.now) }
 {
@@ -84,8 +84,8 @@ pub fn table_meets(t: &[u64], len: usize, start: u64, end: u64) -> bool
     ensures { result ≡ any_of (range.meets (range.range start end)) (entries (table_slots len t.now)) }
 {
     match tables::highest_at_or_below(t, len, end) {
-        Place::At(i) => start <= t[2 * i + 1],
-        Place::Nowhere => false,
+        Some(i) => start <= t[2 * i + 1],
+        None => false,
     }
 }
 

@@ -5,7 +5,7 @@
 ghost use Rattle.std.specs.Prelude.{◌≡◌, true, suc, ◌*◌, ◌≤◌, ◌<◌, length};
 ghost use Rattle.memory_structs.specs.Range.{range};
 ghost use Rattle.model.specs.Lists.{range_at};
-ghost use Rattle.model.specs.declared.Place.TheVariants.{At};
+ghost use Rattle.std.specs.Prelude.{Some};
 ghost use Rattle.model.specs.Rules.{rising, tidy};
 ghost use Rattle.model.specs.Store.{table_slots};
 ghost use Rattle.model.specs.Requests as model;
@@ -13,7 +13,6 @@ ghost use Rattle.entries.specs.Part.{IsPart, slots_in};
 ghost use Rattle.request_search.specs.Searches.{found_of};
 
 use memory_structs::FrameRange;
-use model::Place;
 use pairs::Wanted;
 
 // Chunks in a row that hold a request: from which slot on, how many, and the range that they make up.
@@ -53,8 +52,8 @@ pub fn find_specific_chunk(sorted: bool, len: usize, t: &[u64], start: u64, end:
         return find_in_table(t, len, start, end);
     }
     match pairs::first_wanted(t, Wanted::Holding(FrameRange::new(start, end))) {
-        Place::At(i) => one_chunk(i, t[2 * i], t[2 * i + 1]),
-        Place::Nowhere => Search::NotFound,
+        Some(i) => one_chunk(i, t[2 * i], t[2 * i + 1]),
+        None => Search::NotFound,
     }
 }
 
@@ -65,15 +64,15 @@ fn find_in_table(t: &[u64], len: usize, start: u64, end: u64) -> Search
     ensures { found_of result ≡ model.find true (range start end) (table_slots len t.now) }
 {
     match tables::highest_at_or_below(t, len, start) {
-        Place::At(i) => from_chunk(t, len, i, start, end),
-        Place::Nowhere => Search::NotFound,
+        Some(i) => from_chunk(t, len, i, start, end),
+        None => Search::NotFound,
     }
 }
 
 // The pair at i is the highest that starts at or below the request.
 fn from_chunk(t: &[u64], len: usize, i: usize, start: u64, end: u64) -> Search
     requires { (2 * len ≤ length t.now) × (i < len) }
-    ensures { found_of result ≡ model.in_sorted (range start end) (table_slots len t.now) (At i) }
+    ensures { found_of result ≡ model.in_sorted (range start end) (table_slots len t.now) (Some i) }
 {
     let chunk_start = t[2 * i];
     let chunk_end = t[2 * i + 1];

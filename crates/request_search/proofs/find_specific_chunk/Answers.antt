@@ -3,7 +3,7 @@ use native.Mathlib.Omega.{arith}
 use mathlib.Core.Path.{◌≡◌, sym, ap, ◌∙◌}
 use Prim.Native.Nat.{◌<◌}
 use Rattle.memory_structs.specs.Range.{range}
-use Rattle.model.specs.declared.Place.TheVariants.{At}
+use Rattle.std.specs.Prelude.{Some}
 use Rattle.model.specs.Requests.{find, chunks}
 use Rattle.model.specs.Rules.{tidy}
 use Rattle.tables.proofs.Touching.{tidy_rising}
@@ -30,61 +30,61 @@ first_wanted-requires c = (as_pairs c.requires.part c.if-sorted.false).size
 
 pub overflow_mul-i : goal.overflow_mul-i
 overflow_mul-i c =
-    let found : At c.in-At.i ≡ first_of (Holding c.new.result) (pair_slots 32 c.args.t.now) = sym c.in-At.is ∙ c.first_wanted.ensures in
-    let in_slots : c.in-At.i < 32 = omega (arith, first_bound _ _ _ found, pairs_length 32 c.args.t.now) in
+    let found : Some c.in-Some.i ≡ first_of (Holding c.new.result) (pair_slots 32 c.args.t.now) = sym c.in-Some.is ∙ c.first_wanted.ensures in
+    let in_slots : c.in-Some.i < 32 = omega (arith, first_bound _ _ _ found, pairs_length 32 c.args.t.now) in
     omega (arith, in_slots)
 
 pub offset_bounds-t-i : goal.offset_bounds-t-i
 offset_bounds-t-i c =
-    let found : At c.in-At.i ≡ first_of (Holding c.new.result) (pair_slots 32 c.args.t.now) = sym c.in-At.is ∙ c.first_wanted.ensures in
-    let in_slots : c.in-At.i < 32 = omega (arith, first_bound _ _ _ found, pairs_length 32 c.args.t.now) in
+    let found : Some c.in-Some.i ≡ first_of (Holding c.new.result) (pair_slots 32 c.args.t.now) = sym c.in-Some.is ∙ c.first_wanted.ensures in
+    let in_slots : c.in-Some.i < 32 = omega (arith, first_bound _ _ _ found, pairs_length 32 c.args.t.now) in
     omega (arith, in_slots)
 
 pub bounds-t-i : goal.bounds-t-i
 bounds-t-i c =
-    let found : At c.in-At.i ≡ first_of (Holding c.new.result) (pair_slots 32 c.args.t.now) = sym c.in-At.is ∙ c.first_wanted.ensures in
+    let found : Some c.in-Some.i ≡ first_of (Holding c.new.result) (pair_slots 32 c.args.t.now) = sym c.in-Some.is ∙ c.first_wanted.ensures in
     let slots : IsPairs c.args.t.now = as_pairs c.requires.part c.if-sorted.false in
-    let in_slots : c.in-At.i < 32 = omega (arith, first_bound _ _ _ found, pairs_length 32 c.args.t.now) in
+    let in_slots : c.in-Some.i < 32 = omega (arith, first_bound _ _ _ found, pairs_length 32 c.args.t.now) in
     omega (arith, in_slots, slots.size)
 
-pub overflow_mul-i-in-At : goal.overflow_mul-i-in-At
-overflow_mul-i-in-At c =
-    let found : At c.in-At.i ≡ first_of (Holding c.new.result) (pair_slots 32 c.args.t.now) = sym c.in-At.is ∙ c.first_wanted.ensures in
-    let in_slots : c.in-At.i < 32 = omega (arith, first_bound _ _ _ found, pairs_length 32 c.args.t.now) in
+pub overflow_mul-i-in-Some : goal.overflow_mul-i-in-Some
+overflow_mul-i-in-Some c =
+    let found : Some c.in-Some.i ≡ first_of (Holding c.new.result) (pair_slots 32 c.args.t.now) = sym c.in-Some.is ∙ c.first_wanted.ensures in
+    let in_slots : c.in-Some.i < 32 = omega (arith, first_bound _ _ _ found, pairs_length 32 c.args.t.now) in
     omega (arith, in_slots)
 
 pub overflow_add-i : goal.overflow_add-i
 overflow_add-i c =
-    let found : At c.in-At.i ≡ first_of (Holding c.new.result) (pair_slots 32 c.args.t.now) = sym c.in-At.is ∙ c.first_wanted.ensures in
-    let in_slots : c.in-At.i < 32 = omega (arith, first_bound _ _ _ found, pairs_length 32 c.args.t.now) in
+    let found : Some c.in-Some.i ≡ first_of (Holding c.new.result) (pair_slots 32 c.args.t.now) = sym c.in-Some.is ∙ c.first_wanted.ensures in
+    let in_slots : c.in-Some.i < 32 = omega (arith, first_bound _ _ _ found, pairs_length 32 c.args.t.now) in
     omega (arith, in_slots)
 
-pub offset_bounds-t-i-in-At : goal.offset_bounds-t-i-in-At
-offset_bounds-t-i-in-At c =
-    let found : At c.in-At.i ≡ first_of (Holding c.new.result) (pair_slots 32 c.args.t.now) = sym c.in-At.is ∙ c.first_wanted.ensures in
-    let in_slots : c.in-At.i < 32 = omega (arith, first_bound _ _ _ found, pairs_length 32 c.args.t.now) in
+pub offset_bounds-t-i-in-Some : goal.offset_bounds-t-i-in-Some
+offset_bounds-t-i-in-Some c =
+    let found : Some c.in-Some.i ≡ first_of (Holding c.new.result) (pair_slots 32 c.args.t.now) = sym c.in-Some.is ∙ c.first_wanted.ensures in
+    let in_slots : c.in-Some.i < 32 = omega (arith, first_bound _ _ _ found, pairs_length 32 c.args.t.now) in
     omega (arith, in_slots)
 
-pub bounds-t-i-in-At : goal.bounds-t-i-in-At
-bounds-t-i-in-At c =
-    let found : At c.in-At.i ≡ first_of (Holding c.new.result) (pair_slots 32 c.args.t.now) = sym c.in-At.is ∙ c.first_wanted.ensures in
+pub bounds-t-i-in-Some : goal.bounds-t-i-in-Some
+bounds-t-i-in-Some c =
+    let found : Some c.in-Some.i ≡ first_of (Holding c.new.result) (pair_slots 32 c.args.t.now) = sym c.in-Some.is ∙ c.first_wanted.ensures in
     let slots : IsPairs c.args.t.now = as_pairs c.requires.part c.if-sorted.false in
-    let in_slots : c.in-At.i < 32 = omega (arith, first_bound _ _ _ found, pairs_length 32 c.args.t.now) in
+    let in_slots : c.in-Some.i < 32 = omega (arith, first_bound _ _ _ found, pairs_length 32 c.args.t.now) in
     omega (arith, in_slots, slots.size)
 
-pub returns-in-At : goal.returns-in-At
-returns-in-At c =
-    let found : At c.in-At.i ≡ first_of (Holding c.new.result) (pair_slots 32 c.args.t.now) = sym c.in-At.is ∙ c.first_wanted.ensures in
+pub returns-in-Some : goal.returns-in-Some
+returns-in-Some c =
+    let found : Some c.in-Some.i ≡ first_of (Holding c.new.result) (pair_slots 32 c.args.t.now) = sym c.in-Some.is ∙ c.first_wanted.ensures in
     let slots : IsPairs c.args.t.now = as_pairs c.requires.part c.if-sorted.false in
-    let in_slots : c.in-At.i < 32 = omega (arith, first_bound _ _ _ found, pairs_length 32 c.args.t.now) in
+    let in_slots : c.in-Some.i < 32 = omega (arith, first_bound _ _ _ found, pairs_length 32 c.args.t.now) in
     let a = c.args in
     c.one_chunk.ensures
-    ∙ ap (chunks c.in-At.i 1) (range_at_holds c.in-At.i a.t.now slots in_slots)
-    ∙ slot_holds (range a.start a.end) _ c.new.ensures (pair_slots 32 a.t.now) c.in-At.i found
+    ∙ ap (chunks c.in-Some.i 1) (range_at_holds c.in-Some.i a.t.now slots in_slots)
+    ∙ slot_holds (range a.start a.end) _ c.new.ensures (pair_slots 32 a.t.now) c.in-Some.i found
     ∙ sym (at_early (λ c x. find c (range a.start a.end) x) a.len a.t.now c.if-sorted.false)
 
-pub returns-in-Nowhere : goal.returns-in-Nowhere
+pub returns-in-None : goal.returns-in-None
 unfolding found_of
-returns-in-Nowhere c = let a = c.args in
-    none_holds (range a.start a.end) _ c.new.ensures (pair_slots 32 a.t.now) (sym c.in-Nowhere.is ∙ c.first_wanted.ensures)
+returns-in-None c = let a = c.args in
+    none_holds (range a.start a.end) _ c.new.ensures (pair_slots 32 a.t.now) (sym c.in-None.is ∙ c.first_wanted.ensures)
     ∙ sym (at_early (λ c x. find c (range a.start a.end) x) a.len a.t.now c.if-sorted.false)
