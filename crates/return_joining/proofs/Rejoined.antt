@@ -24,7 +24,7 @@ use Rattle.model.specs.Store.{slot_words, length_in}
 use Rattle.model.proofs.Stored.{AllUsed, none, one}
 use Rattle.pairs.specs.Pairs.{pair_slots, IsPairs}
 use Rattle.entries.specs.Part.{slots_in, part_words}
-use Rattle.entries.proofs.Part.{at_sorted, at_early, length_replaced}
+use Rattle.entries.proofs.Forms.{at_sorted, at_early, length_replaced}
 use Rattle.return_joining.specs.declared.PutBack.{PutBack}
 use Rattle.return_joining.specs.Rejoins.{after_return, GoesBack}
 

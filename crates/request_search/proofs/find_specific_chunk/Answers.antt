@@ -10,7 +10,7 @@ use Rattle.tables.proofs.Touching.{tidy_rising}
 use Rattle.pairs.specs.Pairs.{pair_slots, IsPairs, first_of}
 use Rattle.pairs.specs.declared.Wanted.TheVariants.{Holding}
 use Rattle.pairs.proofs.Slots.{pairs_length, range_at_holds}
-use Rattle.entries.proofs.Part.{as_table, as_pairs, at_sorted, at_early}
+use Rattle.entries.proofs.Forms.{as_table, as_pairs, at_sorted, at_early}
 use Rattle.request_search.specs.Searches.{found_of}
 use Rattle.request_search.proofs.Early.{first_bound, slot_holds, none_holds}
 use Rattle.request_search.proofs.find_specific_chunk.Goals as goal

@@ -10,7 +10,7 @@ use Rattle.model.specs.Requests.{large_enough}
 use Rattle.entries.specs.declared.header.WhichList.TheVariants.{GeneralFree}
 use Rattle.entries.specs.Part.{IsPart, slots_in}
 use Rattle.entries.specs.Whole.{lists_in, slots_at}
-use Rattle.entries.proofs.Part.{width_bound}
+use Rattle.entries.proofs.Forms.{width_bound}
 use Rattle.entries.proofs.Whole.{tidy_list, lent_fits, lent_part, lent_slots, does_as, does_refuse}
 use Rattle.request_taking.specs.Takes.{one_chunk}
 use Rattle.requests.proofs.Counted.{count_none, count_on, no_chunk, place_taken, beginning_chosen, beginning_low}
