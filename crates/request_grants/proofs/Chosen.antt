@@ -11,8 +11,8 @@ use Rattle.memory_structs.specs.Range.{range, size, top}
 use Rattle.memory_structs.specs.declared.range.FrameRange.{FrameRange}
 use Rattle.memory_structs.proofs.Bools.{if_cases}
 use Rattle.model.specs.Lists.{Slot, range_at}
-use Rattle.model.specs.declared.Place.{Place}
-use Rattle.model.specs.declared.Place.TheVariants.{Nowhere, At}
+use Rattle.std.specs.Prelude.{Option}
+use Rattle.std.specs.Prelude.{None, Some}
 use Rattle.model.specs.Requests.{Found, not_found, missing, too_short, chunks, find, in_early, in_sorted, with_next, large_enough}
 use Rattle.model.specs.Rules.{tidy}
 use Rattle.model.proofs.Cover.{Used, Hit, first_hit, last_hit}
@@ -62,17 +62,17 @@ Choice sorted r s too_short = Unit {0}
 Choice sorted r s (chunks i k c) = Chooses sorted s (chosen i k c) r.start r.end
 
 module _ (r : FrameRange) (s : List Slot) (h : r.start ≤ r.end) where
-  early_choice : (q : Place) → Hit (λ c. leb c.start r.start && leb r.end c.end) s q → Choice false r s (in_early s q)
+  early_choice : (q : Option ℕ) → Hit (λ c. leb c.start r.start && leb r.end c.end) s q → Choice false r s (in_early s q)
   unfolding Choice in_early Hit
-  early_choice Nowhere a = tt
-  early_choice (At i) a =
+  early_choice None a = tt
+  early_choice (Some i) a =
       let both = (and-eq-true_iff _ _).0 a.0 in
       one_chosen false s i r.start r.end a.1 (leb-true _ _ both.0) h (leb-true _ _ both.1)
 
-  sorted_choice : (q : Place) → Hit (λ c. leb c.start r.start) s q → Choice true r s (in_sorted r s q)
+  sorted_choice : (q : Option ℕ) → Hit (λ c. leb c.start r.start) s q → Choice true r s (in_sorted r s q)
   unfolding Choice in_sorted with_next Hit
-  sorted_choice Nowhere a = tt
-  sorted_choice (At i) a =
+  sorted_choice None a = tt
+  sorted_choice (Some i) a =
       let from : (range_at s i).start ≤ r.start = leb-true _ _ a.0 in
       if_cases (Choice true r s) (ltb (range_at s i).end r.start) (λ e. tt)
       (λ e. if_cases (Choice true r s) (leb r.end (range_at s i).end)
@@ -106,7 +106,7 @@ unfolding large_enough
 large_hit true n s = last_hit (λ c. leb n (size c)) s
 large_hit false n s = first_hit (λ c. leb n (size c)) s
 
-module _ (sorted : Bool) (s : List Slot) (n i : ℕ) (some : 0 < n) (e : large_enough sorted n s ≡ At i) where
+module _ (sorted : Bool) (s : List Slot) (n i : ℕ) (some : 0 < n) (e : large_enough sorted n s ≡ Some i) where
   hit : (n ≤ size (range_at s i)) × Used s i
   unfolding Hit
   hit = let a = subst (Hit (λ c. leb n (size c)) s) e (large_hit sorted n s) in (leb-true n (size (range_at s i)) a.0, a.1)

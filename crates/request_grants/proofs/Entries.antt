@@ -14,7 +14,7 @@ use Rattle.model.specs.Requests.{entries_after}
 use Rattle.model.specs.Store.{table_slots}
 use Rattle.model.proofs.Stored.{Storable, early, sorted, table_length, table_used}
 use Rattle.model.proofs.Whole.{used_count}
-use Rattle.entries.proofs.Part.{length_removed}
+use Rattle.entries.proofs.Forms.{length_removed}
 use Rattle.request_grants.proofs.Kept.{removed_storable}
 use Rattle.request_search.specs.declared.Chosen.{Chosen}
 use Rattle.request_grants.specs.Grants.{Chooses, entries_left}

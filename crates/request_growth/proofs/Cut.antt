@@ -20,7 +20,7 @@ use Rattle.entries.specs.declared.header.Answered.{Answered}
 use Rattle.entries.specs.declared.header.WhichList.TheVariants.{ReservedFree, ReservedRegions}
 use Rattle.entries.specs.Part.{width, part_words}
 use Rattle.entries.specs.Whole.{lists_in, four, entries_of, with_slots, Ruled, Does}
-use Rattle.entries.proofs.Part.{stored_size}
+use Rattle.entries.proofs.Forms.{stored_size}
 use Rattle.entries.proofs.Again.{lists_again, ruled_again}
 use Rattle.request_search.specs.declared.Chosen.{Chosen}
 use Rattle.request_search.proofs.Grown.{TailGrown, tail_grown}

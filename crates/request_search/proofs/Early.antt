@@ -1,35 +1,32 @@
 -- What the search in the slots answers.
 use Prim.Native.Nat.{ℕ, ◌<◌}
-use mathlib.Core.Path.{◌≡◌, sym, ap, subst, ◌∙◌}
+use mathlib.Core.Path.{◌≡◌, sym, ap, subst}
 use mathlib.Core.Bool.{false}
 use mathlib.Core.List.{List}
 use lib.ListN.{length}
 use Rattle.memory_structs.specs.Range.{inside}
 use Rattle.memory_structs.specs.declared.range.FrameRange.{FrameRange}
 use Rattle.model.specs.Lists.{Slot, first_where, range_at}
-use Rattle.model.specs.declared.Place.{Place}
-use Rattle.model.specs.declared.Place.TheVariants.{Nowhere, At}
+use Rattle.std.specs.Prelude.{Option}
+use Rattle.std.specs.Prelude.{None, Some}
 use Rattle.model.specs.Requests.{not_found, chunks, find, in_early}
 use Rattle.model.proofs.Cover.{Hit, first_hit}
 use Rattle.model.proofs.Growth.{used_below}
-use Rattle.pairs.specs.Pairs.{first_of}
-use Rattle.pairs.specs.declared.Wanted.TheVariants.{Holding}
 
--- a place that a search answers is one of the list's
-pub first_bound : (x : FrameRange) (s : List Slot) (i : ℕ) → At i ≡ first_of (Holding x) s → i < length s
-unfolding Hit first_of
-first_bound x s i e = used_below s i (subst (Hit (λ c. inside c x) s) (sym e) (first_hit (λ c. inside c x) s)).1
+module _ (r : FrameRange) (s : List Slot) where
+  -- a place that a search answers is one of the list's
+  pub first_bound : (i : ℕ) → Some i ≡ first_where (λ c. inside c r) s → i < length s
+  unfolding Hit
+  first_bound i e = used_below s i (subst (Hit (λ c. inside c r) s) (sym e) (first_hit (λ c. inside c r) s)).1
 
--- x is the request as it was handed on
-module _ (r x : FrameRange) (e : x ≡ r) (s : List Slot) where
-  placed : (q : Place) → q ≡ first_of (Holding x) s → in_early s q ≡ find false r s
-  unfolding first_of find
-  placed q h = ap (in_early s) (h ∙ ap (λ (y : FrameRange). first_where (λ c. inside c y) s) e)
+  placed : (q : Option ℕ) → q ≡ first_where (λ c. inside c r) s → in_early s q ≡ find false r s
+  unfolding find
+  placed q h = ap (in_early s) h
 
-  pub slot_holds : (i : ℕ) → At i ≡ first_of (Holding x) s → chunks i 1 (range_at s i) ≡ find false r s
+  pub slot_holds : (i : ℕ) → Some i ≡ first_where (λ c. inside c r) s → chunks i 1 (range_at s i) ≡ find false r s
   unfolding in_early
-  slot_holds i h = placed (At i) h
+  slot_holds i h = placed (Some i) h
 
-  pub none_holds : Nowhere ≡ first_of (Holding x) s → not_found ≡ find false r s
+  pub none_holds : None ≡ first_where (λ c. inside c r) s → not_found ≡ find false r s
   unfolding in_early
-  none_holds h = placed Nowhere h
+  none_holds h = placed None h

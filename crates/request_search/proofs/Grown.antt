@@ -13,8 +13,8 @@ use Rattle.memory_structs.specs.Range.{range, inside}
 use Rattle.memory_structs.specs.declared.range.FrameRange.{FrameRange}
 use Rattle.memory_structs.proofs.Bools.{both, if_cases}
 use Rattle.model.specs.Lists.{Slot, unused, used, entries, first_where, last_where, later, or_else, range_at, insert, insert_early, insert_sorted, remove, remove_one, replace_at, bound}
-use Rattle.model.specs.declared.Place.{Place}
-use Rattle.model.specs.declared.Place.TheVariants.{Nowhere, At}
+use Rattle.std.specs.Prelude.{Option}
+use Rattle.std.specs.Prelude.{None, Some}
 use Rattle.model.specs.Requests.{not_found, missing, chunks, find, in_early, in_sorted, with_next, grant_from, put_before, put_after, entries_after}
 use Rattle.model.specs.Rules.{tidy}
 use Rattle.model.proofs.Cover.{count, if_two, Used, Hit, last_hit}
@@ -23,19 +23,19 @@ use Rattle.model.proofs.Lawful.{Rising}
 use Rattle.model.proofs.Ruled.{tidy_is}
 
 -- the place is that of r in t, and without r the slots are s
-unfoldable Stands : Bool → FrameRange → List Slot → List Slot → Place → Type 0
-Stands sorted r s t Nowhere = ⊥
-Stands sorted r s t (At i) = (range_at t i ≡ r) × (remove_one sorted i t ≡ s)
+unfoldable Stands : Bool → FrameRange → List Slot → List Slot → Option ℕ → Type 0
+Stands sorted r s t None = ⊥
+Stands sorted r s t (Some i) = (range_at t i ≡ r) × (remove_one sorted i t ≡ s)
 
-later_stands : (sorted : Bool) (r x : FrameRange) (s t : List Slot) (q : Place) → Stands sorted r s t q → Stands sorted r (used x ∷ s) (used x ∷ t) (later q)
+later_stands : (sorted : Bool) (r x : FrameRange) (s t : List Slot) (q : Option ℕ) → Stands sorted r s t q → Stands sorted r (used x ∷ s) (used x ∷ t) (later q)
 unfolding Stands later range_at remove_one
-later_stands sorted r x s t Nowhere h = absurd h
-later_stands sorted r x s t (At i) h = (h.0, ap (λ (l : List Slot). used x ∷ l) h.1)
+later_stands sorted r x s t None h = absurd h
+later_stands sorted r x s t (Some i) h = (h.0, ap (λ (l : List Slot). used x ∷ l) h.1)
 
-or_stands : (sorted : Bool) (r : FrameRange) (s t : List Slot) (q o : Place) → Stands sorted r s t q → Stands sorted r s t (or_else q o)
+or_stands : (sorted : Bool) (r : FrameRange) (s t : List Slot) (q o : Option ℕ) → Stands sorted r s t q → Stands sorted r s t (or_else q o)
 unfolding Stands or_else
-or_stands sorted r s t Nowhere o h = absurd h
-or_stands sorted r s t (At i) o h = h
+or_stands sorted r s t None o h = absurd h
+or_stands sorted r s t (Some i) o h = h
 
 -- sorted form: the range that went in is the last that starts at or below its start
 sorted_stands : (r : FrameRange) (s : List Slot) (n : ℕ) → Rising n s → Stands true r s (insert_sorted r s) (last_where (λ c. leb c.start r.start) (insert_sorted r s))
@@ -47,17 +47,17 @@ sorted_stands r (used x ∷ s) n a =
     (λ e. let above : r.start < x.start = ltb-true _ _ e in
     rw (none_above x.start r.start s a.1 above, lt-leb x.start r.start above, le-leb r.start r.start (omega arith)) (refl, refl))
     (λ e. or_stands true r (used x ∷ s) (used x ∷ insert_sorted r s) (later (last_where (λ c. leb c.start r.start) (insert_sorted r s)))
-    (if leb x.start r.start then At 0 else Nowhere)
+    (if leb x.start r.start then Some 0 else None)
     (later_stands true r x s (insert_sorted r s) (last_where (λ c. leb c.start r.start) (insert_sorted r s)) (sorted_stands r s x.start a.1)))
 
 -- early form: where nothing held it before, the range that went in is the first that holds it
-none_first : (b : Bool) (q : Place) → (if b then At 0 else later q) ≡ Nowhere → (b ≡ false) × (q ≡ Nowhere)
+none_first : (b : Bool) (q : Option ℕ) → (if b then Some 0 else later q) ≡ None → (b ≡ false) × (q ≡ None)
 unfolding later
 none_first true q e = let w : ◌≡◌ {A = ℕ} 0 1 = cc in absurd (omega arith)
-none_first false Nowhere e = (refl, refl)
-none_first false (At i) e = let w : ◌≡◌ {A = ℕ} 0 1 = cc in absurd (omega arith)
+none_first false None e = (refl, refl)
+none_first false (Some i) e = let w : ◌≡◌ {A = ℕ} 0 1 = cc in absurd (omega arith)
 
-early_stands : (p : FrameRange → Bool) (r : FrameRange) → p r ≡ true → (s : List Slot) → count s < length s → first_where p s ≡ Nowhere
+early_stands : (p : FrameRange → Bool) (r : FrameRange) → p r ≡ true → (s : List Slot) → count s < length s → first_where p s ≡ None
     → Stands false r s (insert_early r s) (first_where p (insert_early r s))
 unfolding Stands first_where insert_early later range_at remove_one entries
 early_stands p r e [] h n = absurd (omega arith)
@@ -66,10 +66,10 @@ early_stands p r e (used x ∷ s) h n =
     let m = none_first (p x) (first_where p s) n in
     rw m.0 (later_stands false r x s (insert_early r s) (first_where p (insert_early r s)) (early_stands p r e s (omega arith) m.1))
 
-none_inside : (s : List Slot) (q : Place) → in_early s q ≡ not_found → q ≡ Nowhere
+none_inside : (s : List Slot) (q : Option ℕ) → in_early s q ≡ not_found → q ≡ None
 unfolding in_early
-none_inside s Nowhere e = refl
-none_inside s (At i) e = let w : ◌≡◌ {A = ℕ} 0 1 = cc in absurd (omega arith)
+none_inside s None e = refl
+none_inside s (Some i) e = let w : ◌≡◌ {A = ℕ} 0 1 = cc in absurd (omega arith)
 
 -- a grant of the whole range at i
 whole_granted : (sorted : Bool) (i : ℕ) (r : FrameRange) (t : List Slot) → grant_from sorted i 1 r r t ≡ remove_one sorted i t
@@ -102,15 +102,15 @@ grown_at sorted r s few i found out = record {
     left = whole_left sorted i r (insert sorted r s) ∙ ap count out
 
 module _ (r : FrameRange) (s : List Slot) (h : r.start ≤ r.end) where
-  sorted_grown : count s ≤ bound true → (q : Place) → q ≡ last_where (λ c. leb c.start r.start) (insert_sorted r s) → Stands true r s (insert_sorted r s) q → WholeGrown true r s
+  sorted_grown : count s ≤ bound true → (q : Option ℕ) → q ≡ last_where (λ c. leb c.start r.start) (insert_sorted r s) → Stands true r s (insert_sorted r s) q → WholeGrown true r s
   unfolding Stands find in_sorted insert
-  sorted_grown few Nowhere e a = absurd a
-  sorted_grown few (At i) e a = grown_at true r s few i (rw (sym e, a.0, le-ltb r.end r.start h, le-leb r.end r.end (omega arith))) a.1
+  sorted_grown few None e a = absurd a
+  sorted_grown few (Some i) e a = grown_at true r s few i (rw (sym e, a.0, le-ltb r.end r.start h, le-leb r.end r.end (omega arith))) a.1
 
-  early_grown : count s ≤ bound false → (q : Place) → q ≡ first_where (λ c. inside c r) (insert_early r s) → Stands false r s (insert_early r s) q → WholeGrown false r s
+  early_grown : count s ≤ bound false → (q : Option ℕ) → q ≡ first_where (λ c. inside c r) (insert_early r s) → Stands false r s (insert_early r s) q → WholeGrown false r s
   unfolding Stands find in_early insert
-  early_grown few Nowhere e a = absurd a
-  early_grown few (At i) e a = grown_at false r s few i (rw (sym e, a.0)) a.1
+  early_grown few None e a = absurd a
+  early_grown few (Some i) e a = grown_at false r s few i (rw (sym e, a.0)) a.1
 
 -- early form has room for it; sorted form needs none, since what went in is taken out
 pub whole_grown : (sorted : Bool) (r : FrameRange) (s : List Slot) → tidy sorted s ≡ true → (sorted ≡ false → length (entries s) < 32)
@@ -216,9 +216,9 @@ tail_grown r s f n t h = go (last_where (λ c. leb c.start r.start) s) refl (las
     g : FrameRange
     g = range f (f + n - 1)
 
-    go : (q : Place) → last_where (λ c. leb c.start r.start) s ≡ q → Hit (λ c. leb c.start r.start) s q → in_sorted r s q ≡ missing f n → TailGrown r s g
-    go Nowhere e u h = let w : ◌≡◌ {A = ℕ} 0 1 = cc in absurd (omega arith)
-    go (At i) e u h =
+    go : (q : Option ℕ) → last_where (λ c. leb c.start r.start) s ≡ q → Hit (λ c. leb c.start r.start) s q → in_sorted r s q ≡ missing f n → TailGrown r s g
+    go None e u h = let w : ◌≡◌ {A = ℕ} 0 1 = cc in absurd (omega arith)
+    go (Some i) e u h =
         let w : Tail r s i f n = missing_tail r s i f n h in
         let before : (range_at s i).start ≤ r.start = leb-true (range_at s i).start r.start u.0 in
         let last : length s ≡ suc i = omega (arith, w.length, used_below s i u.1) in

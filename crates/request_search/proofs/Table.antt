@@ -10,8 +10,8 @@ use borrow.Author.Tests.{le-leb, lt-leb, le-ltb, lt-ltb, eq-eqb, ne_eqb}
 use Rattle.memory_structs.specs.Range.{range}
 use Rattle.memory_structs.specs.declared.range.FrameRange.{FrameRange}
 use Rattle.model.specs.Lists.{Slot, range_at, last_where}
-use Rattle.model.specs.declared.Place.{Place}
-use Rattle.model.specs.declared.Place.TheVariants.{Nowhere, At}
+use Rattle.std.specs.Prelude.{Option}
+use Rattle.std.specs.Prelude.{None, Some}
 use Rattle.model.specs.Requests.{not_found, missing, too_short, chunks, find, in_sorted, with_next}
 use Rattle.model.specs.Store.{table_slots}
 use Rattle.model.proofs.Stored.{table_length}
@@ -43,24 +43,24 @@ module _ (n i e : ℕ) (c : FrameRange) (ws : List ℕ) where
 
 -- the pair at i is the highest that starts at or below the request
 module _ (n i : ℕ) (r : FrameRange) (ws : List ℕ) (h : i < n) where
-  pub below : (pair_at ws i).end < r.start → not_found ≡ in_sorted r (table_slots n ws) (At i)
+  pub below : (pair_at ws i).end < r.start → not_found ≡ in_sorted r (table_slots n ws) (Some i)
   unfolding in_sorted
   below g = rw (sym (range_at_holds n i ws h), lt-ltb (pair_at ws i).end r.start g)
 
-  pub holds_all : r.start ≤ (pair_at ws i).end → r.end ≤ (pair_at ws i).end → chunks i 1 (pair_at ws i) ≡ in_sorted r (table_slots n ws) (At i)
+  pub holds_all : r.start ≤ (pair_at ws i).end → r.end ≤ (pair_at ws i).end → chunks i 1 (pair_at ws i) ≡ in_sorted r (table_slots n ws) (Some i)
   unfolding in_sorted
   holds_all g k = rw (sym (range_at_holds n i ws h), le-ltb (pair_at ws i).end r.start g, le-leb r.end (pair_at ws i).end k)
 
   pub holds_first : r.start ≤ (pair_at ws i).end → (pair_at ws i).end < r.end
-      → with_next (table_slots n ws) i r.end (pair_at ws i) (range_at (table_slots n ws) (suc i)) ≡ in_sorted r (table_slots n ws) (At i)
+      → with_next (table_slots n ws) i r.end (pair_at ws i) (range_at (table_slots n ws) (suc i)) ≡ in_sorted r (table_slots n ws) (Some i)
   unfolding in_sorted
   holds_first g k = rw (sym (range_at_holds n i ws h), le-ltb (pair_at ws i).end r.start g, lt-leb r.end (pair_at ws i).end k)
 
 -- the search goes by that pair
-pub found_in : (r : FrameRange) (s : List Slot) (q : Place) → q ≡ last_where (λ c. leb c.start r.start) s → in_sorted r s q ≡ find true r s
+pub found_in : (r : FrameRange) (s : List Slot) (q : Option ℕ) → q ≡ last_where (λ c. leb c.start r.start) s → in_sorted r s q ≡ find true r s
 unfolding find
 found_in r s q e = ap (in_sorted r s) e
 
-pub nothing_below : (r : FrameRange) (s : List Slot) → Nowhere ≡ last_where (λ c. leb c.start r.start) s → not_found ≡ find true r s
+pub nothing_below : (r : FrameRange) (s : List Slot) → None ≡ last_where (λ c. leb c.start r.start) s → not_found ≡ find true r s
 unfolding in_sorted
-nothing_below r s e = found_in r s Nowhere e
+nothing_below r s e = found_in r s None e

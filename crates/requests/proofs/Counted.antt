@@ -7,8 +7,8 @@ use mathlib.Core.List.{List}
 use borrow.Author.Tests.{eq-eqb, ne_eqb, lt-ltb, le-ltb}
 use Rattle.memory_structs.specs.Range.{range, top, address_limit}
 use Rattle.model.specs.Lists.{Lists, Slot, range_at}
-use Rattle.model.specs.declared.Place.{Place}
-use Rattle.model.specs.declared.Place.TheVariants.{Nowhere, At}
+use Rattle.std.specs.Prelude.{Option}
+use Rattle.std.specs.Prelude.{None, Some}
 use Rattle.model.specs.Requests.{refused, take_general, from_place, large_enough, by_count, frames_of, by_bytes}
 use Rattle.model.specs.Rules.{tidy}
 use Rattle.entries.specs.declared.header.WhichList.TheVariants.{GeneralFree}
@@ -24,11 +24,11 @@ module _ (n : ℕ) (l : Lists) where
   unfolding by_count
   count_none e = rw (eq-eqb n 0 e)
 
-  pub count_on : (n ≡ 0 → ⊥) → (q : Place) → large_enough l.sorted n l.general_free ≡ q → by_count n l ≡ from_place l n q
+  pub count_on : (n ≡ 0 → ⊥) → (q : Option ℕ) → large_enough l.sorted n l.general_free ≡ q → by_count n l ≡ from_place l n q
   unfolding by_count
   count_on k q e = rw (ne_eqb n 0 k) (ap (from_place l n) e)
 
-  pub no_chunk : from_place l n Nowhere ≡ refused 14 l
+  pub no_chunk : from_place l n None ≡ refused 14 l
   unfolding from_place
   no_chunk = refl
 
@@ -42,7 +42,7 @@ unfolding by_bytes
 bytes_on b n l h e = rw (le-ltb address_limit b h, e) refl
 
 -- the beginning of the chunk at i
-pub place_taken : (l : Lists) (n i : ℕ) (c : Chosen) (end : ℕ) → 0 < n → c ≡ one_chunk i (range_at l.general_free i) → end ≡ c.start + (n - 1) → from_place l n (At i) ≡ taken GeneralFree c c.start end l
+pub place_taken : (l : Lists) (n i : ℕ) (c : Chosen) (end : ℕ) → 0 < n → c ≡ one_chunk i (range_at l.general_free i) → end ≡ c.start + (n - 1) → from_place l n (Some i) ≡ taken GeneralFree c c.start end l
 unfolding from_place
 place_taken l n i c end h e d =
     let k : (range_at l.general_free i).start + n - 1 ≡ end = omega (arith, ap (λ (x : Chosen). x.start) e) in
@@ -51,7 +51,7 @@ place_taken l n i c end h e d =
     ∙ sym (general_taken c c.start end l)
 
 -- it may be granted from, and its frames end at or below the top
-module _ (sorted : Bool) (s : List Slot) (n i : ℕ) (some : 0 < n) (e : large_enough sorted n s ≡ At i) (c : Chosen) (p : c ≡ one_chunk i (range_at s i)) where
+module _ (sorted : Bool) (s : List Slot) (n i : ℕ) (some : 0 < n) (e : large_enough sorted n s ≡ Some i) (c : Chosen) (p : c ≡ one_chunk i (range_at s i)) where
   pub beginning_chosen : Chooses sorted s c c.start (c.start + (n - 1))
   beginning_chosen =
       let same : (range_at s i).start + n - 1 ≡ (range_at s i).start + (n - 1) = omega arith in

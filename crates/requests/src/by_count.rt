@@ -6,7 +6,6 @@ ghost use Rattle.entries.specs.Whole.{lists_in, Ruled, Does};
 
 use entries::{Answered, Header, WhichList};
 use memory_structs::{ADDRESS_LIMIT, FRAME_SIZE, FrameRange};
-use model::Place;
 
 // "Count: early form takes the first slot that is large enough, sorted form the highest chunk; the grant is that chunk's beginning."
 pub fn count_frames(h: Header, lists: &mut [u64], num_frames: u64) -> Answered
@@ -20,7 +19,7 @@ pub fn count_frames(h: Header, lists: &mut [u64], num_frames: u64) -> Answered
     let from = entries::part_of(size, WhichList::GeneralFree);
     let len = entries::length_at(h, WhichList::GeneralFree);
     let found = entries::find_large(h.sorted, len, &lists[from..from + size], num_frames);
-    let Place::At(i) = found else {
+    let Some(i) = found else {
         return entries::refused(h, 14);
     };
     let chunk = entries::entry(h.sorted, len, &lists[from..from + size], i);

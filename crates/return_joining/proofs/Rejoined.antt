@@ -10,7 +10,7 @@ use borrow.Author.Tests.{lt-ltb, le-ltb, le-leb, lt-leb}
 use Rattle.memory_structs.specs.Range.{range}
 use Rattle.memory_structs.specs.declared.range.FrameRange.{FrameRange}
 use Rattle.model.specs.Lists.{Slot, entries, first_where, range_at, insert, insert_sorted, insert_early, replace_at, bound}
-use Rattle.model.specs.declared.Place.TheVariants.{Nowhere, At}
+use Rattle.std.specs.Prelude.{None, Some}
 use Rattle.model.specs.Returns.{join_below, join_above, rejoin, given, no_place}
 use Rattle.model.specs.Store.{table_slots, table_words}
 use Rattle.model.proofs.Cover.{Hit, first_hit, sorted_count}
@@ -24,7 +24,7 @@ use Rattle.model.specs.Store.{slot_words, length_in}
 use Rattle.model.proofs.Stored.{AllUsed, none, one}
 use Rattle.pairs.specs.Pairs.{pair_slots, IsPairs}
 use Rattle.entries.specs.Part.{slots_in, part_words}
-use Rattle.entries.proofs.Part.{at_sorted, at_early, length_replaced}
+use Rattle.entries.proofs.Forms.{at_sorted, at_early, length_replaced}
 use Rattle.return_joining.specs.declared.PutBack.{PutBack}
 use Rattle.return_joining.specs.Rejoins.{after_return, GoesBack}
 
@@ -35,22 +35,22 @@ replaced_used zero r (one u) = one u
 replaced_used (suc i) r (one u) = one (replaced_used i r u)
 
 -- a pair that a search answers is one of the table's
-pub found_pair : (p : FrameRange → Bool) (n : ℕ) (ws : List ℕ) (i : ℕ) → At i ≡ first_where p (table_slots n ws) → i < n
+pub found_pair : (p : FrameRange → Bool) (n : ℕ) (ws : List ℕ) (i : ℕ) → Some i ≡ first_where p (table_slots n ws) → i < n
 unfolding Hit
 found_pair p n ws i e = omega (arith, used_below (table_slots n ws) i (rw (← e) at (first_hit p (table_slots n ws))).1, table_length n ws)
 
 -- what a return is by what touches the range
 module _ (r : FrameRange) (s : List Slot) where
-  pub found_above : (i : ℕ) → At i ≡ first_where (λ c. eqb c.start (r.end + 1)) s → given true r s ≡ replace_at i (range r.start (range_at s i).end) s
+  pub found_above : (i : ℕ) → Some i ≡ first_where (λ c. eqb c.start (r.end + 1)) s → given true r s ≡ replace_at i (range r.start (range_at s i).end) s
   unfolding given rejoin join_above
   found_above i e = ap (join_above r s) (sym e)
 
-  module _ (above : Nowhere ≡ first_where (λ c. eqb c.start (r.end + 1)) s) where
-    pub found_under : (i : ℕ) → At i ≡ first_where (λ c. eqb (c.end + 1) r.start) s → given true r s ≡ replace_at i (range (range_at s i).start r.end) s
+  module _ (above : None ≡ first_where (λ c. eqb c.start (r.end + 1)) s) where
+    pub found_under : (i : ℕ) → Some i ≡ first_where (λ c. eqb (c.end + 1) r.start) s → given true r s ≡ replace_at i (range (range_at s i).start r.end) s
     unfolding given rejoin join_above join_below
     found_under i e = ap (join_above r s) (sym above) ∙ ap (join_below r s) (sym e)
 
-    pub found_neither : Nowhere ≡ first_where (λ c. eqb (c.end + 1) r.start) s → given true r s ≡ insert true r s
+    pub found_neither : None ≡ first_where (λ c. eqb (c.end + 1) r.start) s → given true r s ≡ insert true r s
     unfolding given rejoin join_above join_below insert
     found_neither e = ap (join_above r s) (sym above) ∙ ap (join_below r s) (sym e)
 

@@ -13,7 +13,6 @@ ghost use Rattle.pairs.specs.Pairs.{pair_slots, IsPairs};
 ghost use Rattle.entries.specs.Part.{IsPart, slots_in};
 ghost use Rattle.return_joining.specs.Rejoins.{GoesBack};
 
-use model::Place;
 
 // Whether the list had a place for the range, and its length after the return; without a place it is as it was.
 #[derive(Clone, Copy)]
@@ -60,12 +59,12 @@ fn rejoin_table(t: &mut [u64], len: usize, start: u64, end: u64) -> PutBack
     requires end_le_top { end ≤ top }
     ensures { GoesBack true (range start end) (table_slots len t.old) result t.new }
 {
-    if let Place::At(i) = tables::starting_at(t, len, end + 1) {
+    if let Some(i) = tables::starting_at(t, len, end + 1) {
         let last = t[2 * i + 1];
         tables::replace_at(t, len, i, start, last);
         return PutBack { placed: true, len };
     }
-    if let Place::At(i) = tables::ending_below(t, len, start) {
+    if let Some(i) = tables::ending_below(t, len, start) {
         let first = t[2 * i];
         tables::replace_at(t, len, i, first, end);
         return PutBack { placed: true, len };

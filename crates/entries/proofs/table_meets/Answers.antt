@@ -3,10 +3,9 @@ use native.Mathlib.Omega.{arith}
 use mathlib.Core.Path.{◌≡◌, sym, ap, ◌∙◌}
 use Prim.Native.Nat.{◌<◌}
 use lib.Dec.{leb}
-use Rattle.memory_structs.specs.Range.{range}
 use Rattle.memory_structs.specs.declared.range.FrameRange.{FrameRange}
 use Rattle.model.specs.Lists.{last_where}
-use Rattle.model.specs.declared.Place.TheVariants.{Nowhere, At}
+use Rattle.std.specs.Prelude.{None, Some}
 use Rattle.model.specs.Store.{table_slots}
 use Rattle.tables.proofs.Search.{range_at_holds}
 use Rattle.tables.proofs.Touching.{tidy_rising, pair_bound}
@@ -19,40 +18,22 @@ highest_at_or_below-requires c = record {
   t_value = tidy_rising _ c.requires.t_value;
 }
 
-pub overflow_mul-result : goal.overflow_mul-result
-overflow_mul-result c =
-    let found : let a = c.args in At c.in-At.i ≡ last_where (λ (r : FrameRange). leb r.start a.end) (table_slots a.len a.t.now) = sym c.in-At.is ∙ c.highest_at_or_below.ensures in
-    let in_table : c.in-At.i < c.args.len = pair_bound _ _ _ _ found in
+pub entry-requires : goal.entry-requires
+entry-requires c =
+    let found : Some c.in-Some.i ≡ last_where (λ (r : FrameRange). leb r.start c.args.range.end) (table_slots c.args.len c.args.t.now) = sym c.in-Some.is ∙ c.highest_at_or_below.ensures in
+    let in_table : c.in-Some.i < c.args.len = pair_bound _ _ _ _ found in
     omega (arith, in_table, c.requires.len_in_bounds)
 
-pub overflow_add-result : goal.overflow_add-result
-overflow_add-result c =
-    let found : let a = c.args in At c.in-At.i ≡ last_where (λ (r : FrameRange). leb r.start a.end) (table_slots a.len a.t.now) = sym c.in-At.is ∙ c.highest_at_or_below.ensures in
-    let in_table : c.in-At.i < c.args.len = pair_bound _ _ _ _ found in
-    omega (arith, in_table, c.requires.len_in_bounds)
-
-pub offset_bounds-t-i : goal.offset_bounds-t-i
-offset_bounds-t-i c =
-    let found : let a = c.args in At c.in-At.i ≡ last_where (λ (r : FrameRange). leb r.start a.end) (table_slots a.len a.t.now) = sym c.in-At.is ∙ c.highest_at_or_below.ensures in
-    let in_table : c.in-At.i < c.args.len = pair_bound _ _ _ _ found in
-    omega (arith, in_table, c.requires.len_in_bounds)
-
-pub bounds-t-i : goal.bounds-t-i
-bounds-t-i c =
-    let found : let a = c.args in At c.in-At.i ≡ last_where (λ (r : FrameRange). leb r.start a.end) (table_slots a.len a.t.now) = sym c.in-At.is ∙ c.highest_at_or_below.ensures in
-    let in_table : c.in-At.i < c.args.len = pair_bound _ _ _ _ found in
-    omega (arith, in_table, c.requires.len_in_bounds)
-
-pub returns-in-At : goal.returns-in-At
+pub returns-in-Some : goal.returns-in-Some
 unfolding reaches
-returns-in-At c =
-    let found : let a = c.args in At c.in-At.i ≡ last_where (λ (r : FrameRange). leb r.start a.end) (table_slots a.len a.t.now) = sym c.in-At.is ∙ c.highest_at_or_below.ensures in
-    let in_table : c.in-At.i < c.args.len = pair_bound _ _ _ _ found in
+returns-in-Some c =
+    let found : Some c.in-Some.i ≡ last_where (λ (r : FrameRange). leb r.start c.args.range.end) (table_slots c.args.len c.args.t.now) = sym c.in-Some.is ∙ c.highest_at_or_below.ensures in
+    let in_table : c.in-Some.i < c.args.len = pair_bound _ _ _ _ found in
     let a = c.args in
-    ap (λ (r : FrameRange). leb a.start r.end) (range_at_holds a.len c.in-At.i a.t.now in_table)
-    ∙ met_table (range a.start a.end) a.len a.t.now c.requires.start_le_end c.requires.t_value (At c.in-At.i) found
+    ap (λ (r : FrameRange). leb a.range.start r.end) (c.entry.ensures ∙ range_at_holds a.len c.in-Some.i a.t.now in_table)
+    ∙ met_table a.range a.len a.t.now c.requires.start_le_end c.requires.t_value (Some c.in-Some.i) found
 
-pub returns-in-Nowhere : goal.returns-in-Nowhere
+pub returns-in-None : goal.returns-in-None
 unfolding reaches
-returns-in-Nowhere c = let a = c.args in
-    met_table (range a.start a.end) a.len a.t.now c.requires.start_le_end c.requires.t_value Nowhere (sym c.in-Nowhere.is ∙ c.highest_at_or_below.ensures)
+returns-in-None c = let a = c.args in
+    met_table a.range a.len a.t.now c.requires.start_le_end c.requires.t_value None (sym c.in-None.is ∙ c.highest_at_or_below.ensures)

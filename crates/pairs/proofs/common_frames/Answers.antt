@@ -6,5 +6,5 @@ use Rattle.pairs.proofs.common_frames.Goals as goal
 
 pub overflow_add-result : goal.overflow_add-result
 overflow_add-result c = let a = c.args in
-    let l : a.b_end ≤ top = c.requires (omega (arith, c.if-last-first.false, c.lowest-last.ensures, c.highest-first.ensures)) in
-    omega (arith, c.lowest-last.ensures)
+    let l : a.b.end ≤ top = c.requires (omega (arith, c.if-last-first.false, c.min-last.ensures, c.max-first.ensures)) in
+    omega (arith, c.min-last.ensures)

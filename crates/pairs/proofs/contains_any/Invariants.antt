@@ -1,13 +1,10 @@
 -- `contains_any`: at each turn none of the slots before i meets the range.
 use mathlib.Core.Path.{◌≡◌}
-use Prim.Native.Nat.{◌-◌, ◌≤◌}
-use Rattle.memory_structs.specs.Range.{range, meets}
+use Prim.Native.Nat.{◌≤◌}
+use Rattle.memory_structs.specs.Range.{meets}
 use Rattle.model.specs.Lists.{any_of}
 use Rattle.pairs.proofs.Turns.{left}
 use Rattle.pairs.proofs.contains_any.Given as goal
 
 abbrev pub invariant-loop-i : goal.invariant-loop-i
-invariant-loop-i l = (l.i ≤ 32) × (any_of (meets (range l.start l.end)) (left 0 l.t) ≡ any_of (meets (range l.start l.end)) (left l.i l.t))
-
-abbrev pub decreases-loop-i : goal.decreases-loop-i
-decreases-loop-i l = 32 - l.i
+invariant-loop-i l = (l.i ≤ 32) × (any_of (meets l.range) (left 0 l.t) ≡ any_of (meets l.range) (left l.i l.t))

@@ -1,6 +1,6 @@
 -- `count`: at each turn n of the first i slots are used.
 use mathlib.Core.Path.{◌≡◌, ap}
-use Prim.Native.Nat.{◌+◌, ◌-◌, ◌≤◌}
+use Prim.Native.Nat.{◌+◌, ◌≤◌}
 use lib.ListN.{length}
 use Rattle.pairs.proofs.Turns.{left, one_used, none_used_holds, none_left}
 use native.Mathlib.Omega.{arith}

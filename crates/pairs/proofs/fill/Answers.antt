@@ -1,6 +1,5 @@
 -- `fill`: the two stores are the slot.
 use lib.ListN.{length-set}
-use Rattle.memory_structs.specs.Range.{range}
 use Rattle.model.specs.Lists.{used}
 use Rattle.pairs.proofs.Slots.{put}
 use native.Mathlib.Omega.{arith}
@@ -10,4 +9,4 @@ pub bounds-t-i-2 : goal.bounds-t-i-2
 bounds-t-i-2 c = simp length-set (omega arith)
 
 pub returns : goal.returns
-returns c = put c.args.i (used (range c.args.start c.args.end)) c.args.t.now c.requires.pairs c.requires.i_bound
+returns c = put c.args.i (used c.args.range) c.args.t.now c.requires.pairs c.requires.i_bound

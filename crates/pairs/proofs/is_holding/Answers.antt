@@ -1,23 +1,23 @@
 -- `is_holding`: no unused slot does, and a used one by its ends.
-use native.Mathlib.Omega.{arith}
 use mathlib.Core.Path.{sym, ap, ◌∙◌}
-use lib.Dec.{leb}
 use mathlib.Core.Bool.{Bool, ◌&&◌}
-use borrow.Author.Tests.{le-leb, lt-leb}
-use Rattle.memory_structs.specs.Range.{range}
-use Rattle.pairs.specs.Pairs.{wants}
-use Rattle.pairs.specs.declared.Wanted.TheVariants.{Holding}
+use lib.Dec.{leb}
+use borrow.Author.Tests.{le-leb, lt-leb, ltb-true, ltb-false}
+use Rattle.memory_structs.specs.Range.{inside}
+use Rattle.pairs.specs.Searches.{passes}
 use Rattle.pairs.proofs.Slots.{pair_used, pair_unused}
 use Rattle.pairs.proofs.is_holding.Goals as goal
 
-pub returns-then-end-start : goal.returns-then-end-start
-unfolding wants
-returns-then-end-start c = let a = c.args in sym (ap (wants (Holding (range a.first a.last))) (pair_unused a.start a.end c.if-end-start.true))
+pub returns-then-is_empty : goal.returns-then-is_empty
+returns-then-is_empty c = let a = c.args in
+    sym (ap (passes (λ r. inside r a.range)) (pair_unused a.slot.start a.slot.end (ltb-true _ _ (sym c.is_empty.ensures ∙ c.if-is_empty.true))))
 
-pub returns-then-first-start : goal.returns-then-first-start
-unfolding wants
-returns-then-first-start c = let a = c.args in sym (ap (wants (Holding (range a.first a.last))) (pair_used a.start a.end (omega (arith, c.if-end-start.false))) ∙ ap (λ (b : Bool). b && leb a.last a.end) (lt-leb a.start a.first c.if-first-start.true))
+pub returns-then-range-slot : goal.returns-then-range-slot
+returns-then-range-slot c = let a = c.args in
+    sym (ap (passes (λ r. inside r a.range)) (pair_used a.slot.start a.slot.end (ltb-false _ _ (sym c.is_empty.ensures ∙ c.if-is_empty.false)))
+    ∙ ap (λ (b : Bool). b && leb a.range.end a.slot.end) (lt-leb a.slot.start a.range.start c.if-range-slot.true))
 
 pub returns : goal.returns
-unfolding wants
-returns c = let a = c.args in sym (ap (wants (Holding (range a.first a.last))) (pair_used a.start a.end (omega (arith, c.if-end-start.false))) ∙ ap (λ (b : Bool). b && leb a.last a.end) (le-leb a.start a.first c.if-first-start.false))
+returns c = let a = c.args in
+    sym (ap (passes (λ r. inside r a.range)) (pair_used a.slot.start a.slot.end (ltb-false _ _ (sym c.is_empty.ensures ∙ c.if-is_empty.false)))
+    ∙ ap (λ (b : Bool). b && leb a.range.end a.slot.end) (le-leb a.slot.start a.range.start c.if-range-slot.false))

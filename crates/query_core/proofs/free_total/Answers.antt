@@ -7,7 +7,7 @@ use Rattle.model.specs.Lists.{Slot, entries, sum}
 use Rattle.model.specs.Requests.{without_frames}
 use Rattle.entries.specs.declared.header.WhichList.{WhichList}
 use Rattle.entries.specs.Whole.{lists_in, slots_at}
-use Rattle.entries.proofs.Part.{width_bound}
+use Rattle.entries.proofs.Forms.{width_bound}
 use Rattle.entries.proofs.Whole.{lent_fits, lent_part, lent_slots, lent_tidy}
 use Rattle.query_core.proofs.Asked.{total_is}
 use native.Mathlib.Omega.{arith}

@@ -5,7 +5,7 @@ use mathlib.Core.Path.{◌≡◌}
 use lib.ListN.{length}
 use Rattle.model.specs.Lists.{entries}
 use Rattle.entries.specs.Part.{slots_in}
-use Rattle.entries.proofs.Part.{part_storable}
+use Rattle.entries.proofs.Forms.{part_storable}
 use Rattle.request_grants.specs.Grants.{entries_left}
 use Rattle.request_grants.proofs.Entries.{leftover, one_leftover, no_leftover, leftover_bound, taken_out, left_is}
 use Rattle.request_grants.proofs.Kept.{few_entries}

@@ -9,7 +9,7 @@ use Rattle.entries.specs.declared.header.WhichList.TheVariants.{ReservedRegions}
 use Rattle.entries.specs.Whole.{slots_at}
 use Rattle.entries.proofs.Whole.{lent_fits, lent_part, lent_slots, lent_tidy}
 use Rattle.request_growth.proofs.Growing.{tidy_slotted, lent_changed}
-use Rattle.entries.proofs.Part.{width_bound}
+use Rattle.entries.proofs.Forms.{width_bound}
 use native.Mathlib.Omega.{arith}
 use Rattle.request_growth.proofs.add_reserved_region_to_lists.Goals as goal
 

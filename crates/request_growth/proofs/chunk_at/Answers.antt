@@ -6,7 +6,7 @@ use Rattle.model.specs.Lists.{Slot, range_at}
 use Rattle.entries.specs.declared.header.WhichList.TheVariants.{ReservedFree}
 use Rattle.entries.proofs.Whole.{lent_fits, lent_part, lent_slots}
 use Rattle.request_taking.specs.Takes.{one_chunk}
-use Rattle.entries.proofs.Part.{width_bound}
+use Rattle.entries.proofs.Forms.{width_bound}
 use native.Mathlib.Omega.{arith}
 use Rattle.request_growth.proofs.chunk_at.Goals as goal
 

@@ -4,7 +4,7 @@ use mathlib.Core.List.{List}
 use lib.ListN.{length}
 use Rattle.model.specs.Lists.{Slot, entries}
 use Rattle.entries.proofs.Whole.{lent_fits, lent_part, lent_slots}
-use Rattle.entries.proofs.Part.{width_bound}
+use Rattle.entries.proofs.Forms.{width_bound}
 use native.Mathlib.Omega.{arith}
 use Rattle.request_growth.proofs.count_in.Goals as goal
 

@@ -7,7 +7,7 @@ use Rattle.entries.specs.declared.header.WhichList.TheVariants.{ReservedFree}
 use Rattle.entries.proofs.Whole.{lent_fits, lent_part, lent_slots, lent_tidy}
 use Rattle.request_grants.specs.Grants.{Chooses, grant_of, entries_left}
 use Rattle.request_growth.proofs.Growing.{lent_changed}
-use Rattle.entries.proofs.Part.{width_bound}
+use Rattle.entries.proofs.Forms.{width_bound}
 use native.Mathlib.Omega.{arith}
 use Rattle.request_growth.proofs.take_out.Goals as goal
 

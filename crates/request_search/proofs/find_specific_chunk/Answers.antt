@@ -2,89 +2,49 @@
 use native.Mathlib.Omega.{arith}
 use mathlib.Core.Path.{◌≡◌, sym, ap, ◌∙◌}
 use Prim.Native.Nat.{◌<◌}
-use Rattle.memory_structs.specs.Range.{range}
-use Rattle.model.specs.declared.Place.TheVariants.{At}
+use Rattle.memory_structs.specs.Range.{inside}
+use Rattle.std.specs.Prelude.{Some}
+use Rattle.model.specs.Lists.{first_where}
 use Rattle.model.specs.Requests.{find, chunks}
 use Rattle.model.specs.Rules.{tidy}
 use Rattle.tables.proofs.Touching.{tidy_rising}
-use Rattle.pairs.specs.Pairs.{pair_slots, IsPairs, first_of}
-use Rattle.pairs.specs.declared.Wanted.TheVariants.{Holding}
+use Rattle.pairs.specs.Pairs.{pair_slots}
 use Rattle.pairs.proofs.Slots.{pairs_length, range_at_holds}
-use Rattle.entries.proofs.Part.{as_table, as_pairs, at_sorted, at_early}
+use Rattle.entries.proofs.Forms.{as_table, as_pairs, at_sorted, at_early}
 use Rattle.request_search.specs.Searches.{found_of}
 use Rattle.request_search.proofs.Early.{first_bound, slot_holds, none_holds}
 use Rattle.request_search.proofs.find_specific_chunk.Goals as goal
 
 pub find_in_table-requires : goal.find_in_table-requires
-find_in_table-requires c = let t = as_table c.requires.part c.if-sorted.true in record {
+find_in_table-requires c = let t = as_table c.requires.tidy.part c.if-part.true in record {
   len_in_bounds = omega (arith, t.fits, t.size);
-  t_value = tidy_rising _ (sym (at_sorted tidy c.args.len c.args.t.now c.if-sorted.true) ∙ c.requires.t_value);
+  t_value = tidy_rising _ (sym (at_sorted tidy c.args.part.len c.args.t.now c.if-part.true) ∙ c.requires.tidy.keeps);
 }
 
-pub returns-then-sorted : goal.returns-then-sorted
-returns-then-sorted c = let a = c.args in
-    c.find_in_table.ensures ∙ sym (at_sorted (λ b x. find b (range a.start a.end) x) a.len a.t.now c.if-sorted.true)
+pub returns-then-part : goal.returns-then-part
+returns-then-part c = let a = c.args in
+    c.find_in_table.ensures ∙ sym (at_sorted (λ b x. find b a.asked x) a.part.len a.t.now c.if-part.true)
 
-pub first_wanted-requires : goal.first_wanted-requires
-first_wanted-requires c = (as_pairs c.requires.part c.if-sorted.false).size
+pub first_holding-requires : goal.first_holding-requires
+first_holding-requires c = (as_pairs c.requires.tidy.part c.if-part.false).size
 
-pub overflow_mul-i : goal.overflow_mul-i
-overflow_mul-i c =
-    let found : At c.in-At.i ≡ first_of (Holding c.new.result) (pair_slots 32 c.args.t.now) = sym c.in-At.is ∙ c.first_wanted.ensures in
-    let in_slots : c.in-At.i < 32 = omega (arith, first_bound _ _ _ found, pairs_length 32 c.args.t.now) in
-    omega (arith, in_slots)
+pub entry-requires : goal.entry-requires
+entry-requires c =
+    let in_slots : c.in-Some.i < 32 = omega (arith, first_bound c.args.asked (pair_slots 32 c.args.t.now) c.in-Some.i (sym c.in-Some.is ∙ c.first_holding.ensures), pairs_length 32 c.args.t.now) in
+    omega (arith, in_slots, (as_pairs c.requires.tidy.part c.if-part.false).size)
 
-pub offset_bounds-t-i : goal.offset_bounds-t-i
-offset_bounds-t-i c =
-    let found : At c.in-At.i ≡ first_of (Holding c.new.result) (pair_slots 32 c.args.t.now) = sym c.in-At.is ∙ c.first_wanted.ensures in
-    let in_slots : c.in-At.i < 32 = omega (arith, first_bound _ _ _ found, pairs_length 32 c.args.t.now) in
-    omega (arith, in_slots)
-
-pub bounds-t-i : goal.bounds-t-i
-bounds-t-i c =
-    let found : At c.in-At.i ≡ first_of (Holding c.new.result) (pair_slots 32 c.args.t.now) = sym c.in-At.is ∙ c.first_wanted.ensures in
-    let slots : IsPairs c.args.t.now = as_pairs c.requires.part c.if-sorted.false in
-    let in_slots : c.in-At.i < 32 = omega (arith, first_bound _ _ _ found, pairs_length 32 c.args.t.now) in
-    omega (arith, in_slots, slots.size)
-
-pub overflow_mul-i-in-At : goal.overflow_mul-i-in-At
-overflow_mul-i-in-At c =
-    let found : At c.in-At.i ≡ first_of (Holding c.new.result) (pair_slots 32 c.args.t.now) = sym c.in-At.is ∙ c.first_wanted.ensures in
-    let in_slots : c.in-At.i < 32 = omega (arith, first_bound _ _ _ found, pairs_length 32 c.args.t.now) in
-    omega (arith, in_slots)
-
-pub overflow_add-i : goal.overflow_add-i
-overflow_add-i c =
-    let found : At c.in-At.i ≡ first_of (Holding c.new.result) (pair_slots 32 c.args.t.now) = sym c.in-At.is ∙ c.first_wanted.ensures in
-    let in_slots : c.in-At.i < 32 = omega (arith, first_bound _ _ _ found, pairs_length 32 c.args.t.now) in
-    omega (arith, in_slots)
-
-pub offset_bounds-t-i-in-At : goal.offset_bounds-t-i-in-At
-offset_bounds-t-i-in-At c =
-    let found : At c.in-At.i ≡ first_of (Holding c.new.result) (pair_slots 32 c.args.t.now) = sym c.in-At.is ∙ c.first_wanted.ensures in
-    let in_slots : c.in-At.i < 32 = omega (arith, first_bound _ _ _ found, pairs_length 32 c.args.t.now) in
-    omega (arith, in_slots)
-
-pub bounds-t-i-in-At : goal.bounds-t-i-in-At
-bounds-t-i-in-At c =
-    let found : At c.in-At.i ≡ first_of (Holding c.new.result) (pair_slots 32 c.args.t.now) = sym c.in-At.is ∙ c.first_wanted.ensures in
-    let slots : IsPairs c.args.t.now = as_pairs c.requires.part c.if-sorted.false in
-    let in_slots : c.in-At.i < 32 = omega (arith, first_bound _ _ _ found, pairs_length 32 c.args.t.now) in
-    omega (arith, in_slots, slots.size)
-
-pub returns-in-At : goal.returns-in-At
-returns-in-At c =
-    let found : At c.in-At.i ≡ first_of (Holding c.new.result) (pair_slots 32 c.args.t.now) = sym c.in-At.is ∙ c.first_wanted.ensures in
-    let slots : IsPairs c.args.t.now = as_pairs c.requires.part c.if-sorted.false in
-    let in_slots : c.in-At.i < 32 = omega (arith, first_bound _ _ _ found, pairs_length 32 c.args.t.now) in
+pub returns-in-Some : goal.returns-in-Some
+returns-in-Some c =
+    let found : Some c.in-Some.i ≡ first_where (λ r. inside r c.args.asked) (pair_slots 32 c.args.t.now) = sym c.in-Some.is ∙ c.first_holding.ensures in
+    let in_slots : c.in-Some.i < 32 = omega (arith, first_bound c.args.asked (pair_slots 32 c.args.t.now) c.in-Some.i found, pairs_length 32 c.args.t.now) in
     let a = c.args in
     c.one_chunk.ensures
-    ∙ ap (chunks c.in-At.i 1) (range_at_holds c.in-At.i a.t.now slots in_slots)
-    ∙ slot_holds (range a.start a.end) _ c.new.ensures (pair_slots 32 a.t.now) c.in-At.i found
-    ∙ sym (at_early (λ c x. find c (range a.start a.end) x) a.len a.t.now c.if-sorted.false)
+    ∙ ap (chunks c.in-Some.i 1) (c.entry.ensures ∙ range_at_holds c.in-Some.i a.t.now (as_pairs c.requires.tidy.part c.if-part.false) in_slots)
+    ∙ slot_holds a.asked (pair_slots 32 a.t.now) c.in-Some.i found
+    ∙ sym (at_early (λ c x. find c a.asked x) a.part.len a.t.now c.if-part.false)
 
-pub returns-in-Nowhere : goal.returns-in-Nowhere
+pub returns-in-None : goal.returns-in-None
 unfolding found_of
-returns-in-Nowhere c = let a = c.args in
-    none_holds (range a.start a.end) _ c.new.ensures (pair_slots 32 a.t.now) (sym c.in-Nowhere.is ∙ c.first_wanted.ensures)
-    ∙ sym (at_early (λ c x. find c (range a.start a.end) x) a.len a.t.now c.if-sorted.false)
+returns-in-None c = let a = c.args in
+    none_holds a.asked (pair_slots 32 a.t.now) (sym c.in-None.is ∙ c.first_holding.ensures)
+    ∙ sym (at_early (λ c x. find c a.asked x) a.part.len a.t.now c.if-part.false)

@@ -4,7 +4,7 @@ use Rattle.memory_structs.specs.Range.{range}
 use Rattle.model.specs.Lists.{Slot}
 use Rattle.model.specs.Requests.{find}
 use mathlib.Core.List.{List}
-use Rattle.entries.proofs.Part.{width_bound}
+use Rattle.entries.proofs.Forms.{width_bound}
 use Rattle.entries.proofs.Whole.{lent_fits, lent_part, lent_slots, lent_tidy}
 use native.Mathlib.Omega.{arith}
 use Rattle.request_taking.proofs.find_in.Goals as goal

@@ -1,7 +1,7 @@
 -- `take_in`: the request to the list, in its own part, put back.
 use mathlib.Core.Path.{ap, ◌∙◌}
 use borrow.Author.Tests.{not-true, not-false}
-use Rattle.entries.proofs.Part.{width_bound}
+use Rattle.entries.proofs.Forms.{width_bound}
 use Rattle.entries.proofs.Whole.{lent_fits, lent_part, lent_tidy}
 use Rattle.request_taking.specs.Takes.{granted_with}
 use Rattle.request_taking.proofs.Taken.{lent_chooses, does_not_take, does_take}

@@ -7,7 +7,7 @@ use Rattle.memory_structs.specs.Range.{range}
 use Rattle.model.specs.Lists.{Slot}
 use Rattle.model.specs.Returns.{no_place}
 use Rattle.entries.specs.Whole.{lists_in, slots_at, accepted_with}
-use Rattle.entries.proofs.Part.{width_bound}
+use Rattle.entries.proofs.Forms.{width_bound}
 use Rattle.entries.proofs.Whole.{lent_fits, lent_part, lent_slots, lent_tidy}
 use Rattle.returns.proofs.Giving.{lent_stored, no_place_holds, a_place}
 use native.Mathlib.Omega.{arith}

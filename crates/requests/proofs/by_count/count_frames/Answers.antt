@@ -5,12 +5,12 @@ use mathlib.Core.Path.{◌≡◌, refl, sym, ap, ◌∙◌}
 use mathlib.Core.List.{List}
 use lib.ListN.{length, take, drop}
 use Rattle.model.specs.Lists.{Slot, range_at}
-use Rattle.model.specs.declared.Place.TheVariants.{At}
+use Rattle.std.specs.Prelude.{Some}
 use Rattle.model.specs.Requests.{large_enough}
 use Rattle.entries.specs.declared.header.WhichList.TheVariants.{GeneralFree}
 use Rattle.entries.specs.Part.{IsPart, slots_in}
 use Rattle.entries.specs.Whole.{lists_in, slots_at}
-use Rattle.entries.proofs.Part.{width_bound}
+use Rattle.entries.proofs.Forms.{width_bound}
 use Rattle.entries.proofs.Whole.{tidy_list, lent_fits, lent_part, lent_slots, does_as, does_refuse}
 use Rattle.request_taking.specs.Takes.{one_chunk}
 use Rattle.requests.proofs.Counted.{count_none, count_on, no_chunk, place_taken, beginning_chosen, beginning_low}
@@ -73,8 +73,8 @@ entry-chunk-requires c =
     let same : slots_in c.args.h.sorted c.length_at-len.result ((take ((c.part_of-from.result + c.width-size.result) - c.part_of-from.result) (drop c.part_of-from.result c.args.lists.now))) ≡ ((lists_in c.args.h c.args.lists.now).general_free) = lent_slots c.args.h c.args.lists.now c.requires GeneralFree c.width-size.ensures c.part_of-from.ensures c.length_at-len.ensures in
     let answer : large_enough c.args.h.sorted c.args.num_frames (((lists_in c.args.h c.args.lists.now).general_free)) ≡ c.find_large-found.result = sym (c.find_large-found.ensures ∙ ap (large_enough c.args.h.sorted c.args.num_frames) same) in
     let some : 0 < c.args.num_frames = omega (arith, c.if-num_frames-eq0.false) in
-    let found : large_enough c.args.h.sorted c.args.num_frames (((lists_in c.args.h c.args.lists.now).general_free)) ≡ At c.in-At.i = answer ∙ c.in-At.is in
-    let in_list = (beginning_chosen c.args.h.sorted (((lists_in c.args.h c.args.lists.now).general_free)) c.args.num_frames c.in-At.i some found _ refl).in_list in record {
+    let found : large_enough c.args.h.sorted c.args.num_frames (((lists_in c.args.h c.args.lists.now).general_free)) ≡ Some c.in-Some.i = answer ∙ c.in-Some.is in
+    let in_list = (beginning_chosen c.args.h.sorted (((lists_in c.args.h c.args.lists.now).general_free)) c.args.num_frames c.in-Some.i some found _ refl).in_list in record {
       part = the-part;
       i_in_bounds = omega (arith, in_list, ap (λ (x : List Slot). length x) same);
     }
@@ -90,10 +90,10 @@ overflow_add-last c =
     let same : slots_in c.args.h.sorted c.length_at-len.result ((take ((c.part_of-from.result + c.width-size.result) - c.part_of-from.result) (drop c.part_of-from.result c.args.lists.now))) ≡ ((lists_in c.args.h c.args.lists.now).general_free) = lent_slots c.args.h c.args.lists.now c.requires GeneralFree c.width-size.ensures c.part_of-from.ensures c.length_at-len.ensures in
     let answer : large_enough c.args.h.sorted c.args.num_frames (((lists_in c.args.h c.args.lists.now).general_free)) ≡ c.find_large-found.result = sym (c.find_large-found.ensures ∙ ap (large_enough c.args.h.sorted c.args.num_frames) same) in
     let some : 0 < c.args.num_frames = omega (arith, c.if-num_frames-eq0.false) in
-    let found : large_enough c.args.h.sorted c.args.num_frames (((lists_in c.args.h c.args.lists.now).general_free)) ≡ At c.in-At.i = answer ∙ c.in-At.is in
-    let chunk : c.one_chunk-chosen.result ≡ one_chunk c.in-At.i (range_at (((lists_in c.args.h c.args.lists.now).general_free)) c.in-At.i) = c.one_chunk-chosen.ensures ∙ ap (one_chunk c.in-At.i) (c.entry-chunk.ensures ∙ ap (λ (x : List Slot). range_at x c.in-At.i) same) in
+    let found : large_enough c.args.h.sorted c.args.num_frames (((lists_in c.args.h c.args.lists.now).general_free)) ≡ Some c.in-Some.i = answer ∙ c.in-Some.is in
+    let chunk : c.one_chunk-chosen.result ≡ one_chunk c.in-Some.i (range_at (((lists_in c.args.h c.args.lists.now).general_free)) c.in-Some.i) = c.one_chunk-chosen.ensures ∙ ap (one_chunk c.in-Some.i) (c.entry-chunk.ensures ∙ ap (λ (x : List Slot). range_at x c.in-Some.i) same) in
     let tidied = tidy_list (lists_in c.args.h c.args.lists.now) c.requires.keeps GeneralFree in
-    omega (arith, beginning_low c.args.h.sorted (((lists_in c.args.h c.args.lists.now).general_free)) c.args.num_frames c.in-At.i some found c.one_chunk-chosen.result chunk tidied)
+    omega (arith, beginning_low c.args.h.sorted (((lists_in c.args.h c.args.lists.now).general_free)) c.args.num_frames c.in-Some.i some found c.one_chunk-chosen.result chunk tidied)
 
 pub take_in-requires : goal.take_in-requires
 unfolding slots_at
@@ -101,10 +101,10 @@ take_in-requires c =
     let same : slots_in c.args.h.sorted c.length_at-len.result ((take ((c.part_of-from.result + c.width-size.result) - c.part_of-from.result) (drop c.part_of-from.result c.args.lists.now))) ≡ ((lists_in c.args.h c.args.lists.now).general_free) = lent_slots c.args.h c.args.lists.now c.requires GeneralFree c.width-size.ensures c.part_of-from.ensures c.length_at-len.ensures in
     let answer : large_enough c.args.h.sorted c.args.num_frames (((lists_in c.args.h c.args.lists.now).general_free)) ≡ c.find_large-found.result = sym (c.find_large-found.ensures ∙ ap (large_enough c.args.h.sorted c.args.num_frames) same) in
     let some : 0 < c.args.num_frames = omega (arith, c.if-num_frames-eq0.false) in
-    let found : large_enough c.args.h.sorted c.args.num_frames (((lists_in c.args.h c.args.lists.now).general_free)) ≡ At c.in-At.i = answer ∙ c.in-At.is in
-    let chunk : c.one_chunk-chosen.result ≡ one_chunk c.in-At.i (range_at (((lists_in c.args.h c.args.lists.now).general_free)) c.in-At.i) = c.one_chunk-chosen.ensures ∙ ap (one_chunk c.in-At.i) (c.entry-chunk.ensures ∙ ap (λ (x : List Slot). range_at x c.in-At.i) same) in record {
+    let found : large_enough c.args.h.sorted c.args.num_frames (((lists_in c.args.h c.args.lists.now).general_free)) ≡ Some c.in-Some.i = answer ∙ c.in-Some.is in
+    let chunk : c.one_chunk-chosen.result ≡ one_chunk c.in-Some.i (range_at (((lists_in c.args.h c.args.lists.now).general_free)) c.in-Some.i) = c.one_chunk-chosen.ensures ∙ ap (one_chunk c.in-Some.i) (c.entry-chunk.ensures ∙ ap (λ (x : List Slot). range_at x c.in-Some.i) same) in record {
       ruled = c.requires;
-      chooses = beginning_chosen c.args.h.sorted (((lists_in c.args.h c.args.lists.now).general_free)) c.args.num_frames c.in-At.i some found c.one_chunk-chosen.result chunk;
+      chooses = beginning_chosen c.args.h.sorted (((lists_in c.args.h c.args.lists.now).general_free)) c.args.num_frames c.in-Some.i some found c.one_chunk-chosen.result chunk;
     }
 
 pub returns : goal.returns
@@ -113,9 +113,9 @@ returns c =
     let same : slots_in c.args.h.sorted c.length_at-len.result ((take ((c.part_of-from.result + c.width-size.result) - c.part_of-from.result) (drop c.part_of-from.result c.args.lists.now))) ≡ ((lists_in c.args.h c.args.lists.now).general_free) = lent_slots c.args.h c.args.lists.now c.requires GeneralFree c.width-size.ensures c.part_of-from.ensures c.length_at-len.ensures in
     let answer : large_enough c.args.h.sorted c.args.num_frames (((lists_in c.args.h c.args.lists.now).general_free)) ≡ c.find_large-found.result = sym (c.find_large-found.ensures ∙ ap (large_enough c.args.h.sorted c.args.num_frames) same) in
     let some : 0 < c.args.num_frames = omega (arith, c.if-num_frames-eq0.false) in
-    let found : large_enough c.args.h.sorted c.args.num_frames (((lists_in c.args.h c.args.lists.now).general_free)) ≡ At c.in-At.i = answer ∙ c.in-At.is in
-    let chunk : c.one_chunk-chosen.result ≡ one_chunk c.in-At.i (range_at (((lists_in c.args.h c.args.lists.now).general_free)) c.in-At.i) = c.one_chunk-chosen.ensures ∙ ap (one_chunk c.in-At.i) (c.entry-chunk.ensures ∙ ap (λ (x : List Slot). range_at x c.in-At.i) same) in
+    let found : large_enough c.args.h.sorted c.args.num_frames (((lists_in c.args.h c.args.lists.now).general_free)) ≡ Some c.in-Some.i = answer ∙ c.in-Some.is in
+    let chunk : c.one_chunk-chosen.result ≡ one_chunk c.in-Some.i (range_at (((lists_in c.args.h c.args.lists.now).general_free)) c.in-Some.i) = c.one_chunk-chosen.ensures ∙ ap (one_chunk c.in-Some.i) (c.entry-chunk.ensures ∙ ap (λ (x : List Slot). range_at x c.in-Some.i) same) in
     let all = lists_in c.args.h c.args.lists.now in
     does_as
-    (count_on c.args.num_frames all c.if-num_frames-eq0.false _ found ∙ place_taken all c.args.num_frames c.in-At.i c.one_chunk-chosen.result _ some chunk refl)
+    (count_on c.args.num_frames all c.if-num_frames-eq0.false _ found ∙ place_taken all c.args.num_frames c.in-Some.i c.one_chunk-chosen.result _ some chunk refl)
     c.take_in.ensures

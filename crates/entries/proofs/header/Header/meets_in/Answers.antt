@@ -1,0 +1,24 @@
+-- `meets_in`: the list, in its own part.
+use mathlib.Core.Path.{ap, ◌∙◌}
+use mathlib.Core.List.{List}
+use Rattle.memory_structs.specs.Range.{meets}
+use Rattle.model.specs.Lists.{Slot, entries, any_of}
+use Rattle.entries.proofs.Whole.{lent_fits, lent_slots, lent_tidy}
+use native.Mathlib.Omega.{arith}
+use Rattle.entries.proofs.header.Header.meets_in.Goals as goal
+
+pub offset_bounds-entries-words_of : goal.offset_bounds-entries-words_of
+offset_bounds-entries-words_of c = omega (arith, lent_fits c.args.self c.args.entries.now c.requires.ruled c.args.which c.part.ensures c.words_of.ensures.from c.words_of.ensures.to)
+
+pub slice_bounds-meets-end : goal.slice_bounds-meets-end
+slice_bounds-meets-end c = omega (arith, lent_fits c.args.self c.args.entries.now c.requires.ruled c.args.which c.part.ensures c.words_of.ensures.from c.words_of.ensures.to)
+
+pub meets-requires : goal.meets-requires
+meets-requires c = record {
+  tidy = lent_tidy c.args.self c.args.entries.now c.requires.ruled c.args.which c.part.ensures c.words_of.ensures.from c.words_of.ensures.to;
+  start_le_end = c.requires.start_le_end;
+}
+
+pub returns : goal.returns
+returns c =
+    c.meets.ensures ∙ ap (λ (x : List Slot). any_of (meets c.args.range) (entries x)) (lent_slots c.args.self c.args.entries.now c.requires.ruled c.args.which c.part.ensures c.words_of.ensures.from c.words_of.ensures.to)
