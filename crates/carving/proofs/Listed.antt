@@ -1,6 +1,8 @@
 -- Ranges in an array: what a push does to the list that it stores, and what is read back.
-use Rattle.std.proofs.Common.{◌≡◌, ℕ, zero, suc, ◌+◌, ◌≤◌, ◌<◌, min, List, [], ◌∷◌, ◌++◌, length, take, refl, sym, ap, ◌∙◌, arith, length-append}
-use lib.ListN.{set}
+use Rattle.std.proofs.Common.{◌≡◌, ℕ, zero, suc, ◌+◌, ◌-◌, ◌≤◌, ◌<◌, min, List, [], ◌∷◌, ◌++◌, length, take, refl, sym, ap, ◌∙◌, arith, length-append}
+use lib.ListN.{set, get_or, drop}
+use lib.Seq.{take_all}
+use Rattle.memory_structs.specs.Range.{range}
 use Rattle.memory_structs.specs.declared.range.FrameRange.{FrameRange}
 use Rattle.carving.specs.declared.RangeList.{RangeList}
 use Rattle.carving.specs.Ranges.{padded, listed, ranges_in, Whole, Counted, Appended}
@@ -66,3 +68,12 @@ listed_counted l rs e h = listed_whole l rs (omega (arith, count l rs e)) e
 -- of a list that has stored all, `len` is how many
 pub whole_length : (l : RangeList) → Whole l → length (ranges_in l) ≡ l.len
 whole_length l w = omega (arith, count l (ranges_in l) w.is, w.few)
+
+-- a slice with its first range apart
+pub first_of : (rs : List FrameRange) → 1 ≤ length rs → rs ≡ get_or rs 0 (range 0 0) ∷ take (length rs - 1) (drop 1 rs)
+first_of [] h = absurd (omega arith)
+first_of (r ∷ rs) h = ap (λ (l : List FrameRange). r ∷ l) (sym (take_all (length (r ∷ rs) - 1) rs (omega arith)))
+
+pub none_of : (rs : List FrameRange) → length rs < 1 → rs ≡ []
+none_of [] h = refl
+none_of (r ∷ rs) h = absurd (omega arith)

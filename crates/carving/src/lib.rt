@@ -1,7 +1,7 @@
 // Carving: a general area without its reserved areas. Document 01, "Carving" (000, `check_and_add_free_region`).
 #![tactic(auto)]
 
-ghost use Rattle.std.specs.Prelude.{◌≡◌, [], ◌∷◌, ◌≤◌};
+ghost use Rattle.std.specs.Prelude.{◌≡◌, [], ◌∷◌, ◌≤◌, length};
 ghost use Rattle.memory_structs.specs.Range as range;
 ghost use Rattle.model.specs.Carving as model;
 ghost use Rattle.carving.specs.Ranges.{listed, ranges_in, Carvable, Appended};
@@ -31,7 +31,8 @@ impl RangeList {
     #[tactic(auto, unfolding(crate::specs::Ranges::ranges_in))]
     pub fn as_slice(&self) -> &[FrameRange]
         requires { self.now.len ≤ 32 }
-        ensures { result.now ≡ ranges_in self.now }
+        ensures ranges { result.now ≡ ranges_in self.now }
+        ensures few { length result.now ≤ 32 }
     {
         &self.ranges[..self.len]
     }

@@ -1,8 +1,7 @@
 -- The turns of joining: of the first area over the others, of a pass over the areas, and of the passes.
-use Rattle.std.proofs.Common.{◌≡◌, ℕ, ◌+◌, ◌-◌, ◌≤◌, ◌<◌, true, false, List, [], ◌∷◌, ◌++◌, length, get_or, drop, refl, sym, ap, ◌∙◌, arith, add-one, drop-cons}
+use Rattle.std.proofs.Common.{◌≡◌, ℕ, ◌+◌, ◌≤◌, ◌<◌, true, false, List, [], ◌∷◌, ◌++◌, length, get_or, drop, refl, sym, ap, ◌∙◌, arith, add-one, drop-cons}
 use mathlib.Core.List.{append_assoc, append-nil}
-use lib.ListN.{drop_of_length-le, take}
-use lib.Seq.{take_all}
+use lib.ListN.{drop_of_length-le}
 use borrow.Author.Tests.{eq-eqb, ne_eqb}
 use Rattle.memory_structs.specs.Range.{range, meets, hull}
 use Rattle.memory_structs.specs.declared.range.FrameRange.{FrameRange}
@@ -56,15 +55,6 @@ module _ (first : FrameRange) (others : List FrameRange) where
         leaves = a.leaves ∙ ap (λ (x : List FrameRange). a.ys ++ left area x) here ∙ rw m
             (sym (append_assoc a.ys (other ∷ []) (left area (drop (k + 1) others))));
       }
-
--- a list with its first area apart
-pub first_of : (rs : List FrameRange) → 1 ≤ length rs → rs ≡ get_or rs 0 (range 0 0) ∷ take (length rs - 1) (drop 1 rs)
-first_of [] h = absurd (omega arith)
-first_of (r ∷ rs) h = ap (λ (l : List FrameRange). r ∷ l) (sym (take_all (length (r ∷ rs) - 1) rs (omega arith)))
-
-pub none_of : (rs : List FrameRange) → length rs < 1 → rs ≡ []
-none_of [] h = refl
-none_of (r ∷ rs) h = absurd (omega arith)
 
 -- the areas passed over, and those left
 pub record Passing (rs : List FrameRange) (joined todo : RangeList) : Type 0 where
