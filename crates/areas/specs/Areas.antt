@@ -1,6 +1,6 @@
--- Areas as a lent list of words. The words in quotes are document 01's.
+-- The areas of a boot map: as structs, and as a lent list of words. The words in quotes are document 01's.
 use Rattle.std.specs.Prelude.{ℕ, zero, suc, ◌≡◌, Bool, false, ◌||◌, List, [], ◌∷◌, map}
-use Rattle.memory_structs.specs.Range.{range, is_empty, above_top, touched, bytes_out_of_bounds}
+use Rattle.memory_structs.specs.Range.{range, empty, is_empty, above_top, touched, bytes_out_of_bounds}
 use Rattle.memory_structs.specs.declared.range.FrameRange.{FrameRange}
 use Rattle.model.specs.Lists.{any_of}
 use Rattle.model.specs.Boot.{Extent, marked, reserved_of, all_pieces}
@@ -8,12 +8,11 @@ use Rattle.model.specs.declared.Area.{Area}
 use Rattle.model.specs.declared.ByteArea.{ByteArea}
 use Rattle.model.specs.declared.Kind.{Kind}
 use Rattle.model.specs.declared.Kind.TheVariants.{General, Reserved}
-use Rattle.carving.specs.Ranges.{listed, range_list_of, Appended}
+use Rattle.carving.specs.Ranges.{listed, Appended}
 use Rattle.areas.specs.declared.AreaUnit.{AreaUnit}
 use Rattle.areas.specs.declared.AreaUnit.TheVariants.{Frames, Bytes}
 use Rattle.areas.specs.declared.BootArea.{BootArea}
 use Rattle.areas.specs.declared.Collected.{Collected}
-use Rattle.areas.specs.declared.Seen.{Seen}
 
 -- "kind (general or reserved)", as a word: 0 is general, any other number reserved
 unfoldable pub kind_of_word : ℕ → Kind
@@ -35,14 +34,14 @@ areas_in ws = triples (λ s e k. record { start = s; end = e; kind = kind_of_wor
 abbrev pub byte_areas_in : List ℕ → List ByteArea
 byte_areas_in ws = triples (λ a b k. record { address = a; bytes = b; kind = kind_of_word k }) ws
 
--- The same in the shape of the code: an area with its test for 2. `frames_taken` and `bytes_taken` (proofs/Read) say that these are the
+-- The same in the shape of the code: an area with its test for 2. `frames_taken` and `bytes_taken` (Laws) say that these are the
 -- model's areas, and that 2 refuses where the model's test does.
 
 unfoldable pub frame_area : ℕ → ℕ → Kind → BootArea
-frame_area s e k = record { start = s; end = e; kind = k; outside = above_top (range s e) }
+frame_area s e k = record { frames = range s e; kind = k; outside = above_top (range s e) }
 
 unfoldable pub byte_area : ℕ → ℕ → Kind → BootArea
-byte_area a b k = record { start = (touched a b).start; end = (touched a b).end; kind = k; outside = bytes_out_of_bounds a b }
+byte_area a b k = record { frames = touched a b; kind = k; outside = bytes_out_of_bounds a b }
 
 abbrev pub boot_area : Area → BootArea
 boot_area a = frame_area a.start a.end a.kind
@@ -64,9 +63,13 @@ area_of Bytes a b k = byte_area a b (kind_of_word k)
 abbrev pub read : AreaUnit → List ℕ → List BootArea
 read u ws = triples (area_of u) ws
 
+-- what stands past the end of a map; it is never read
+abbrev pub no_area : BootArea
+no_area = record { frames = empty; kind = General; outside = false }
+
 unfoldable pub extents : List BootArea → List Extent
 extents [] = []
-extents (a ∷ xs) = marked a.kind (range a.start a.end) ∷ extents xs
+extents (a ∷ xs) = marked a.kind a.frames ∷ extents xs
 
 unfoldable pub any_outside : List BootArea → Bool
 any_outside [] = false
@@ -91,7 +94,3 @@ pub record OneAreaMore (before : Collected) (a : BootArea) (after : Collected) :
   pub appended : Appended before.reserved (reserved_in (a ∷ [])) after.reserved
   pub empty_is : after.any_empty ≡ (before.any_empty || any_of is_empty (reserved_in (a ∷ [])))
   pub outside_is : after.any_outside ≡ (before.any_outside || a.outside)
-
--- what is collected, where the arrays of the reserved areas are lent
-abbrev pub gathered : List ℕ → List ℕ → Seen → Collected
-gathered ss es s = record { reserved = range_list_of ss es s.reserved_len; any_empty = s.any_empty; any_outside = s.any_outside }

@@ -1,15 +1,118 @@
-// The areas of a boot map as a lent list of words, three to an area: document 01, "Areas come as a lent list of start, end and kind".
-// The third word is the kind: 0 is general, any other number reserved. Words after the last whole area are not read.
+// The areas of a boot map, in any form: document 01, "Areas come as a lent list of start, end and kind".
 #![tactic(auto)]
 
-ghost use Rattle.std.specs.Prelude.{◌≡◌, [], ◌∷◌, ◌+◌, ◌≤◌, length, get_or};
-ghost use Rattle.carving.specs.Ranges.{listed, range_list_of, ranges_in, Carvable, Appended};
-ghost use Rattle.areas.specs.Areas as spec;
-ghost use Rattle.areas.specs.Areas.{CollectedOf, OneAreaMore};
+ghost use Rattle.std.specs.Prelude.{◌≡◌, ◌<◌, List, map, length, get_or};
+ghost use Rattle.model.specs.Calls.{Call, boot_call, boot_bytes_call};
+ghost use Rattle.carving.specs.Ranges.{listed, ranges_in, Carvable};
+ghost use Rattle.areas.specs.Areas.{CollectedOf, OneAreaMore, pieces_in, boot_area, boot_byte_area, kind_of_word, area_of, read, no_area};
+ghost use Rattle.areas.specs.Boots.{IsBoot, Bounded, boot_call_of};
+ghost use Rattle.areas.specs.declared.BootArea.{BootArea};
+ghost use Rattle.areas.specs.Laws.{frames_boot, bytes_boot, words_boot, frames_bounded, bytes_bounded, words_bounded};
 
 use carving::{RangeList, check_and_add_free_region};
 use memory_structs::FrameRange;
-use model::Kind;
+use model::{Area, ByteArea, Kind};
+
+// An area as boot takes it: its frames, its kind, and whether 2 refuses it.
+#[derive(Clone, Copy)]
+pub struct BootArea {
+    pub frames: FrameRange,
+    pub kind: Kind,
+    pub outside: bool,
+}
+
+// A boot map: areas in the given order, and the call that boots from them.
+pub trait BootMap {
+    ghost areas: { Self → List BootArea };
+
+    ghost call: { Self → Call };
+
+    fn area_count(&self) -> usize
+        ensures { result ≡ length (areas self.now) };
+
+    fn area_at(&self, i: usize) -> BootArea
+        requires { i < length (areas self.now) }
+        ensures { result ≡ get_or (areas self.now) i no_area };
+
+    // The areas are those of the call, and 2 refuses the same.
+    ghost is_boot: { (m : Self) → IsBoot (call m) (areas m) };
+
+    // An area that 2 lets pass ends at or below the top.
+    ghost bounded: { (m : Self) → Bounded (areas m) };
+}
+
+// An area of a map that is a slice of areas.
+pub trait MapArea: Copy {
+    ghost taken: { Self → BootArea };
+
+    ghost call: { List Self → Call };
+
+    fn boot_area(self) -> BootArea
+        ensures { result ≡ taken self };
+
+    ghost is_boot: { (xs : List Self) → IsBoot (call xs) (map taken xs) };
+
+    ghost bounded: { (xs : List Self) → Bounded (map taken xs) };
+}
+
+// Areas given as first frame, last frame and kind.
+impl MapArea for Area {
+    ghost taken = { boot_area };
+
+    ghost call = { boot_call };
+
+    ghost is_boot = { frames_boot };
+
+    ghost bounded = { frames_bounded };
+
+    #[tactic(auto, unfolding(crate::specs::Areas::frame_area))]
+    fn boot_area(self) -> BootArea {
+        let frames = FrameRange::new(self.start, self.end);
+        BootArea {
+            frames,
+            kind: self.kind,
+            outside: frames.is_above_top(),
+        }
+    }
+}
+
+// Areas given as address, size in bytes and kind.
+impl MapArea for ByteArea {
+    ghost taken = { boot_byte_area };
+
+    ghost call = { boot_bytes_call };
+
+    ghost is_boot = { bytes_boot };
+
+    ghost bounded = { bytes_bounded };
+
+    #[tactic(auto, unfolding(crate::specs::Areas::byte_area))]
+    fn boot_area(self) -> BootArea {
+        BootArea {
+            frames: FrameRange::touched(self.address, self.bytes),
+            kind: self.kind,
+            outside: FrameRange::bytes_out_of_bounds(self.address, self.bytes),
+        }
+    }
+}
+
+impl<A: MapArea> BootMap for &[A] {
+    ghost areas = { λ m. map A.taken m.now };
+
+    ghost call = { λ m. A.call m.now };
+
+    ghost is_boot = { λ m. A.is_boot m.now };
+
+    ghost bounded = { λ m. A.bounded m.now };
+
+    fn area_count(&self) -> usize {
+        self.len()
+    }
+
+    fn area_at(&self, i: usize) -> BootArea {
+        self[i].boot_area()
+    }
+}
 
 // What the first two words of an area are: its first and last frame, or its address and its size in bytes.
 #[derive(Clone, Copy)]
@@ -18,13 +121,70 @@ pub enum AreaUnit {
     Bytes,
 }
 
-// An area as boot takes it: the frames in its range, its kind, and whether 2 refuses it.
+// Areas as words, three to an area, the third of them the kind. Words after the last whole area are not read.
 #[derive(Clone, Copy)]
-pub struct BootArea {
-    pub start: u64,
-    pub end: u64,
-    pub kind: Kind,
-    pub outside: bool,
+pub struct WordAreas<'a> {
+    pub words: &'a [u64],
+    pub unit: AreaUnit,
+}
+
+impl BootMap for WordAreas<'_> {
+    ghost areas = { λ m. read m.unit m.words.now };
+
+    ghost call = { λ m. boot_call_of m.unit m.words.now };
+
+    ghost is_boot = { λ m. words_boot m.unit m.words.now };
+
+    ghost bounded = { λ m. words_bounded m.unit m.words.now };
+
+    #[tactic(auto, using(crate::proofs::Read::triples_count))]
+    fn area_count(&self) -> usize {
+        self.words.len() / 3
+    }
+
+    #[tactic(auto, using(crate::proofs::Read::triples_count, crate::proofs::Read::three_words))]
+    fn area_at(&self, i: usize) -> BootArea {
+        let at = 3 * i;
+        area_of(
+            self.unit,
+            self.words[at],
+            self.words[at + 1],
+            self.words[at + 2],
+        )
+    }
+}
+
+// The area of three words.
+#[tactic(auto, unfolding(crate::specs::Areas::area_of))]
+fn area_of(unit: AreaUnit, first: u64, second: u64, third: u64) -> BootArea
+    ensures { result ≡ area_of unit first second third }
+{
+    let kind = kind_of(third);
+    match unit {
+        AreaUnit::Frames => Area {
+            start: first,
+            end: second,
+            kind,
+        }
+        .boot_area(),
+        AreaUnit::Bytes => ByteArea {
+            address: first,
+            bytes: second,
+            kind,
+        }
+        .boot_area(),
+    }
+}
+
+// A kind as a word: 0 is general, any other number reserved. A function and no `From`, since the type is another crate's.
+#[tactic(auto, unfolding(crate::specs::Areas::kind_of_word))]
+pub fn kind_of(word: u64) -> Kind
+    ensures { result ≡ kind_of_word word }
+{
+    match word {
+        0 => Kind::General,
+        _ => Kind::Reserved,
+    }
 }
 
 // What is known of all areas before the first is carved: the reserved ones in the given order, whether one of them is empty, and
@@ -36,238 +196,49 @@ pub struct Collected {
     pub any_outside: bool,
 }
 
-// The same while areas are collected, without the arrays of the reserved areas: those are lent, so that an area copies none.
-// `reserved_len` is how many there are, 33 where they are more than 32.
-#[derive(Clone, Copy)]
-pub struct Seen {
-    pub reserved_len: usize,
-    pub any_empty: bool,
-    pub any_outside: bool,
-}
-
-// Reads the whole list once, however long it is and however the kinds are mixed.
-pub fn collect(areas: &[u64], unit: AreaUnit) -> Collected
-    ensures { CollectedOf (spec.read unit areas.now) result }
-{
-    let none = carving::no_ranges();
-    let mut starts = none.starts;
-    let mut ends = none.ends;
-    let mut seen = Seen {
-        reserved_len: none.len,
-        any_empty: false,
-        any_outside: false,
-    };
-    let mut i = 0;
-    while 3 <= areas.len() - i {
-        seen = collect_at(&mut starts, &mut ends, seen, area_at(areas, i, unit));
-        i += 3;
-    }
-    gathered(starts, ends, seen)
-}
-
-// The pieces of each general area, in the given order.
-pub fn carve(areas: &[u64], unit: AreaUnit, reserved: RangeList) -> RangeList
-    requires { Carvable reserved }
-    ensures { result ≡ listed (spec.pieces_in (ranges_in reserved) (spec.read unit areas.now)) }
-{
-    let none = carving::no_ranges();
-    let mut starts = none.starts;
-    let mut ends = none.ends;
-    let mut len = none.len;
-    let mut i = 0;
-    while 3 <= areas.len() - i {
-        let area = area_at(areas, i, unit);
-        len = carve_at(
-            area,
-            &reserved.starts,
-            &reserved.ends,
-            reserved.len,
-            &mut starts,
-            &mut ends,
-            len,
-        );
-        i += 3;
-    }
-    RangeList { starts, ends, len }
-}
-
-pub fn nothing_collected() -> Collected
-    ensures { CollectedOf [] result }
-{
-    let reserved = carving::no_ranges();
-    Collected {
-        reserved,
-        any_empty: false,
-        any_outside: false,
-    }
-}
-
-// One area more, for a list by value: a walk over structs can't lend what lies in one.
-pub fn collect_area(c: Collected, area: BootArea) -> Collected
-    ensures { OneAreaMore c area result }
-{
-    let reserved = c.reserved;
-    let mut starts = reserved.starts;
-    let mut ends = reserved.ends;
-    let before = Seen {
-        reserved_len: reserved.len,
-        any_empty: c.any_empty,
-        any_outside: c.any_outside,
-    };
-    let seen = collect_at(&mut starts, &mut ends, before, area);
-    gathered(starts, ends, seen)
-}
-
-// One area more, where the arrays of the reserved areas are lent.
-fn collect_at(starts: &mut [u64; 32], ends: &mut [u64; 32], seen: Seen, area: BootArea) -> Seen
-    ensures { OneAreaMore (spec.gathered starts.old ends.old seen) area (spec.gathered starts.new ends.new result) }
-{
-    let any_outside = seen.any_outside || area.outside;
-    let kind = area.kind;
-    match kind {
-        Kind::General => Seen {
-            reserved_len: seen.reserved_len,
-            any_empty: seen.any_empty,
-            any_outside,
-        },
-        Kind::Reserved => {
-            let reserved_len = carving::push_at(
-                starts,
-                ends,
-                seen.reserved_len,
-                area.start,
-                area.end,
-            );
-            let any_empty = seen.any_empty || area.end < area.start;
-            Seen {
-                reserved_len,
-                any_empty,
-                any_outside,
+impl Collected {
+    // One area more.
+    fn add(&mut self, area: BootArea)
+        ensures { OneAreaMore self.old area self.new }
+    {
+        self.any_outside |= area.outside;
+        match area.kind {
+            Kind::General => {}
+            Kind::Reserved => {
+                self.any_empty |= area.frames.is_empty();
+                self.reserved.push(area.frames);
             }
         }
     }
 }
 
-fn gathered(starts: [u64; 32], ends: [u64; 32], seen: Seen) -> Collected
-    ensures { result ≡ spec.gathered starts ends seen }
+// Reads the whole map once, however long it is and however the kinds are mixed.
+pub fn collect<M: BootMap>(map: &M) -> Collected
+    ensures { CollectedOf (M.areas map.now) result }
 {
-    let reserved = RangeList {
-        starts,
-        ends,
-        len: seen.reserved_len,
+    let mut collected = Collected {
+        reserved: RangeList::new(),
+        any_empty: false,
+        any_outside: false,
     };
-    Collected {
-        reserved,
-        any_empty: seen.any_empty,
-        any_outside: seen.any_outside,
+    for i in 0..map.area_count() {
+        collected.add(map.area_at(i));
     }
+    collected
 }
 
-// The pieces of one area, for a list by value.
-pub fn carve_area<'a>(
-    area: BootArea,
-    starts: &'a [u64; 32],
-    ends: &'a [u64; 32],
-    len: usize,
-    pieces: RangeList,
-) -> RangeList
-    requires starts_len { (length starts.now ≡ 32) × (length ends.now ≡ 32) }
-    requires carvable { Carvable (range_list_of starts.now ends.now len) }
-    ensures { Appended pieces (spec.pieces_in (ranges_in (range_list_of starts.now ends.now len)) (area ∷ [])) result }
+// The pieces of each general area, in the given order.
+pub fn carve<M: BootMap>(map: &M, reserved: &RangeList) -> RangeList
+    requires { Carvable reserved.now }
+    ensures { result ≡ listed (pieces_in (ranges_in reserved.now) (M.areas map.now)) }
 {
-    let mut piece_starts = pieces.starts;
-    let mut piece_ends = pieces.ends;
-    let count = carve_at(
-        area,
-        starts,
-        ends,
-        len,
-        &mut piece_starts,
-        &mut piece_ends,
-        pieces.len,
-    );
-    RangeList {
-        starts: piece_starts,
-        ends: piece_ends,
-        len: count,
+    let mut pieces = RangeList::new();
+    for i in 0..map.area_count() {
+        let area = map.area_at(i);
+        match area.kind {
+            Kind::General => check_and_add_free_region(reserved, area.frames, &mut pieces),
+            Kind::Reserved => {}
+        }
     }
-}
-
-// The pieces of one area, where the arrays of the pieces are lent. The answer is how many pieces there are now.
-fn carve_at<'a>(
-    area: BootArea,
-    starts: &'a [u64; 32],
-    ends: &'a [u64; 32],
-    len: usize,
-    piece_starts: &mut [u64; 32],
-    piece_ends: &mut [u64; 32],
-    pieces: usize,
-) -> usize
-    requires starts_len { (length starts.now ≡ 32) × (length ends.now ≡ 32) }
-    requires carvable { Carvable (range_list_of starts.now ends.now len) }
-    ensures { Appended (range_list_of piece_starts.old piece_ends.old pieces) (spec.pieces_in (ranges_in (range_list_of starts.now ends.now len)) (area ∷ [])) (range_list_of piece_starts.new piece_ends.new result) }
-{
-    let kind = area.kind;
-    match kind {
-        Kind::General => check_and_add_free_region(
-            starts,
-            ends,
-            len,
-            area.start,
-            area.end,
-            piece_starts,
-            piece_ends,
-            pieces,
-        ),
-        Kind::Reserved => pieces,
-    }
-}
-
-// The area of the three words from i on.
-fn area_at(areas: &[u64], i: usize, unit: AreaUnit) -> BootArea
-    requires { i + 3 ≤ length areas.now }
-    ensures { result ≡ spec.area_of unit (get_or areas.now i 0) (get_or areas.now (i + 1) 0) (get_or areas.now (i + 2) 0) }
-{
-    let first = areas[i];
-    let second = areas[i + 1];
-    let kind = kind_of(areas[i + 2]);
-    match unit {
-        AreaUnit::Frames => area_in_frames(first, second, kind),
-        AreaUnit::Bytes => area_in_bytes(first, second, kind),
-    }
-}
-
-// A kind as a word: 0 is general, any other number reserved.
-pub fn kind_of(word: u64) -> Kind
-    ensures { result ≡ spec.kind_of_word word }
-{
-    if word == 0 {
-        return Kind::General;
-    }
-    Kind::Reserved
-}
-
-pub fn area_in_frames(start: u64, end: u64, kind: Kind) -> BootArea
-    ensures { result ≡ spec.frame_area start end kind }
-{
-    let outside = FrameRange::new(start, end).is_above_top();
-    BootArea {
-        start,
-        end,
-        kind,
-        outside,
-    }
-}
-
-pub fn area_in_bytes(address: u64, bytes: u64, kind: Kind) -> BootArea
-    ensures { result ≡ spec.byte_area address bytes kind }
-{
-    let frames = FrameRange::touched(address, bytes);
-    let outside = FrameRange::bytes_out_of_bounds(address, bytes);
-    BootArea {
-        start: frames.start,
-        end: frames.end,
-        kind,
-        outside,
-    }
+    pieces
 }

@@ -1,34 +1,24 @@
 -- Ranges in arrays, as boot collects them.
-use Rattle.std.specs.Prelude.{ℕ, zero, suc, ◌≤◌, min, ◌≡◌, true, false, List, [], ◌∷◌, ◌++◌, map, length, leb}
-use Rattle.memory_structs.specs.Range.{range, is_empty, top}
+use Rattle.std.specs.Prelude.{ℕ, zero, suc, ◌≤◌, min, ◌≡◌, true, false, List, [], ◌∷◌, ◌++◌, length, take, leb}
+use Rattle.memory_structs.specs.Range.{empty, is_empty, top}
 use Rattle.memory_structs.specs.declared.range.FrameRange.{FrameRange}
 use Rattle.model.specs.Lists.{any_of, all_of}
 use Rattle.carving.specs.declared.RangeList.{RangeList}
 
--- the first n numbers of the list, 0 where it has fewer
-unfoldable pub padded : ℕ → List ℕ → List ℕ
-padded zero xs = []
-padded (suc n) [] = 0 ∷ padded n []
-padded (suc n) (x ∷ xs) = x ∷ padded n xs
+-- the first n ranges of the list, [1,0] where it has fewer
+unfoldable pub padded : ℕ → List FrameRange → List FrameRange
+padded zero rs = []
+padded (suc n) [] = empty ∷ padded n []
+padded (suc n) (r ∷ rs) = r ∷ padded n rs
 
 -- the ranges in order, the first 32 stored; 33 stands for any number above 32: "more than 32 reserved areas", "more than 32 general
 -- pieces"
 unfoldable pub listed : List FrameRange → RangeList
-listed rs = record { starts = padded 32 (map (λ r. r.start) rs); ends = padded 32 (map (λ r. r.end) rs); len = min 33 (length rs) }
+listed rs = record { ranges = padded 32 rs; len = min 33 (length rs) }
 
 -- the ranges that are stored
-unfoldable pub ranges_of : ℕ → List ℕ → List ℕ → List FrameRange
-ranges_of zero ss es = []
-ranges_of (suc n) (s ∷ ss) (e ∷ es) = range s e ∷ ranges_of n ss es
-ranges_of (suc n) (s ∷ ss) [] = []
-ranges_of (suc n) [] es = []
-
 unfoldable pub ranges_in : RangeList → List FrameRange
-ranges_in l = ranges_of l.len l.starts l.ends
-
--- the list with these arrays, where they are lent
-abbrev pub range_list_of : List ℕ → List ℕ → ℕ → RangeList
-range_list_of ss es n = record { starts = ss; ends = es; len = n }
+ranges_in l = take l.len l.ranges
 
 -- a list that has stored all of its ranges
 pub record Whole (l : RangeList) : Type 0 where

@@ -4,116 +4,96 @@
 ghost use Rattle.std.specs.Prelude.{◌≡◌, [], ◌∷◌, ◌≤◌, length};
 ghost use Rattle.memory_structs.specs.Range as range;
 ghost use Rattle.model.specs.Carving as model;
-ghost use Rattle.carving.specs.Ranges.{listed, range_list_of, ranges_in, Carvable, Appended};
+ghost use Rattle.carving.specs.Ranges.{listed, ranges_in, Carvable, Appended};
+
+use memory_structs::FrameRange;
 
 // Ranges in the order in which they came, the first 32 of them. `len` is 33 where there are more.
 #[derive(Clone, Copy)]
 pub struct RangeList {
-    pub starts: [u64; 32],
-    pub ends: [u64; 32],
+    pub ranges: [FrameRange; 32],
     pub len: usize,
 }
 
-// A list of no ranges.
-pub fn no_ranges() -> RangeList
-    ensures { result ≡ listed [] }
-{
-    RangeList {
-        starts: [0; 32],
-        ends: [0; 32],
-        len: 0,
+impl RangeList {
+    // A list of no ranges.
+    #[tactic(auto, unfolding(crate::specs::Ranges::listed, crate::specs::Ranges::padded))]
+    pub fn new() -> RangeList
+        ensures { result ≡ listed [] }
+    {
+        RangeList {
+            ranges: [FrameRange::EMPTY; 32],
+            len: 0,
+        }
     }
-}
 
-// The range goes in at the end; the 33rd is counted and not stored. The arrays are lent, since copies of them cost more than the rest of
-// a push. The answer is the list's new `len`.
-pub fn push_at(
-    starts: &mut [u64; 32],
-    ends: &mut [u64; 32],
-    len: usize,
-    start: u64,
-    end: u64,
-) -> usize
-    ensures { Appended (range_list_of starts.old ends.old len) (range.range start end ∷ []) (range_list_of starts.new ends.new result) }
-{
-    if 32 <= len {
-        return 33;
+    // The ranges of a list that has stored all of them.
+    #[tactic(auto, unfolding(crate::specs::Ranges::ranges_in))]
+    pub fn as_slice(&self) -> &[FrameRange]
+        requires { self.now.len ≤ 32 }
+        ensures ranges { result.now ≡ ranges_in self.now }
+        ensures few { length result.now ≤ 32 }
+    {
+        &self.ranges[..self.len]
     }
-    starts[len] = start;
-    ends[len] = end;
-    len + 1
-}
 
-// A piece goes in where it has a frame.
-fn push_piece(
-    starts: &mut [u64; 32],
-    ends: &mut [u64; 32],
-    len: usize,
-    start: u64,
-    end: u64,
-) -> usize
-    ensures { Appended (range_list_of starts.old ends.old len) (model.piece start end) (range_list_of starts.new ends.new result) }
-{
-    if end < start {
-        return len;
+    // The range goes in at the end; the 33rd is counted and not stored.
+    #[tactic(auto, using(crate::proofs::Listed::pushed, crate::proofs::Listed::counted))]
+    pub fn push(&mut self, range: FrameRange)
+        ensures { Appended self.old (range ∷ []) self.new }
+    {
+        if 32 <= self.len {
+            self.len = 33;
+            return;
+        }
+        self.ranges[self.len] = range;
+        self.len += 1;
     }
-    push_at(starts, ends, len, start, end)
+
+    // A piece goes in where it has a frame.
+    #[tactic(auto, unfolding(model::specs::Carving::piece))]
+    fn push_piece(&mut self, piece: FrameRange)
+        ensures { Appended self.old (model.piece piece.start piece.end) self.new }
+    {
+        if piece.is_empty() {
+            return;
+        }
+        self.push(piece);
+    }
 }
 
 // The frame, or the first one past the reserved area that holds it.
-fn past(reserved_start: u64, reserved_end: u64, frame: u64) -> u64
-    requires { reserved_end ≤ range.top }
-    ensures { result ≡ model.past (range.range reserved_start reserved_end) frame }
+#[tactic(auto, unfolding(model::specs::Carving::past))]
+fn past(reserved: FrameRange, frame: u64) -> u64
+    requires { reserved.end ≤ range.top }
+    ensures { result ≡ model.past reserved frame }
 {
-    if reserved_start <= frame && frame <= reserved_end {
-        return reserved_end + 1;
+    if reserved.start <= frame && frame <= reserved.end {
+        return reserved.end + 1;
     }
     frame
 }
 
-// The pieces of the area from start to end that are not reserved: those above before those below. The reserved areas and the pieces are
-// lent, since there may be 33 calls at a time, one in another. The answer is how many pieces there are now.
-pub fn check_and_add_free_region<'a>(
-    starts: &'a [u64; 32],
-    ends: &'a [u64; 32],
-    len: usize,
-    start: u64,
-    end: u64,
-    piece_starts: &mut [u64; 32],
-    piece_ends: &mut [u64; 32],
-    mut pieces: usize,
-) -> usize
-    requires starts_len { (length starts.now ≡ 32) × (length ends.now ≡ 32) }
-    requires carvable { Carvable (range_list_of starts.now ends.now len) }
-    ensures { Appended (range_list_of piece_starts.old piece_ends.old pieces) (model.pieces (ranges_in (range_list_of starts.now ends.now len)) (range.range start end)) (range_list_of piece_starts.new piece_ends.new result) }
+// The pieces of an area that are not reserved: those above before those below. The reserved areas and the pieces are lent, since there may
+// be 33 calls at a time, one in another.
+pub fn check_and_add_free_region(reserved: &RangeList, area: FrameRange, pieces: &mut RangeList)
+    requires { Carvable reserved.now }
+    ensures { Appended pieces.old (model.pieces (ranges_in reserved.now) area) pieces.new }
 {
-    let mut current_start = start;
-    let mut current_end = end;
-    let mut i = 0;
-    while i < len {
-        let first = starts[i];
-        let last = ends[i];
-        current_start = past(first, last, current_start);
-        i += 1;
-        if current_start <= first {
-            if first <= current_end {
-                if current_end <= last {
-                    // The rest of the area is reserved.
-                    return push_piece(piece_starts, piece_ends, pieces, current_start, first - 1);
-                }
-                pieces = check_and_add_free_region(
-                    starts,
-                    ends,
-                    len,
-                    last + 1,
-                    current_end,
-                    piece_starts,
-                    piece_ends,
-                    pieces,
-                );
-                current_end = first - 1;
+    let mut start = area.start;
+    let mut end = area.end;
+    for &next in reserved.as_slice() {
+        start = past(next, start);
+        if start <= next.start && next.start <= end {
+            if end <= next.end {
+                // The rest of the area is reserved.
+                pieces.push_piece(FrameRange::new(start, next.start - 1));
+                return;
             }
+            let above = FrameRange::new(next.end + 1, end);
+            check_and_add_free_region(reserved, above, pieces);
+            end = next.start - 1;
         }
     }
-    push_piece(piece_starts, piece_ends, pieces, current_start, current_end)
+    pieces.push_piece(FrameRange::new(start, end));
 }

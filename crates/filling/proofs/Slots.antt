@@ -1,29 +1,13 @@
 -- The slots as they are filled: the first ranges, and unused slots after them.
-use Prim.Native.Nat.{ℕ, zero, suc, ◌+◌, ◌-◌, ◌≤◌, ◌<◌}
-use native.Mathlib.Omega.{arith}
-use native.Mathlib.Numerals.{add-one}
-use mathlib.Core.Path.{◌≡◌, refl, sym, ap, ◌∙◌}
-use mathlib.Core.List.{List, [], ◌∷◌, ◌++◌}
-use lib.ListN.{length, take, drop, set, get_or, replicate, length-append, length-take, length-replicate}
-use lib.Seq.{take_all}
+use Rattle.std.proofs.Common.{◌≡◌, ℕ, suc, ◌+◌, ◌-◌, ◌<◌, ◌≤◌, true, List, [], ◌∷◌, ◌++◌, length, take, get_or, replicate, refl, sym, ap, ◌∙◌, arith, length-append}
+use lib.ListN.{set, length-take}
+use Rattle.std.proofs.lemmas.List.{map-set, take_more}
 use Rattle.memory_structs.specs.Range.{range}
 use Rattle.memory_structs.specs.declared.range.FrameRange.{FrameRange}
 use Rattle.model.specs.Lists.{Slot, unused, used}
 use Rattle.model.specs.Boot.{slots, early}
-use Rattle.model.specs.Store.{slots_of, early_of}
+use Rattle.model.specs.Store.{early_of, range_in, is_used}
 use Rattle.model.specs.declared.EarlyList.{EarlyList}
-use Rattle.model.proofs.Stored.{early_again}
-use Rattle.early.specs.Slots.{IsEarly}
-use Rattle.early.proofs.Slots.{stored, written}
-use Rattle.carving.specs.declared.RangeList.{RangeList}
-use Rattle.carving.specs.Ranges.{ranges_in, Whole}
-use Rattle.carving.proofs.Listed.{whole_length, range_at_holds}
-
--- n unused slots after the ranges
-slots_fit : (rs : List FrameRange) (n : ℕ) → length (slots rs ++ replicate n unused) ≡ length rs + n
-unfolding slots
-slots_fit [] n = omega (arith, length-replicate n unused)
-slots_fit (r ∷ rs) n = omega (arith, slots_fit rs n)
 
 -- the slot after the ranges takes the next one
 next_slot : (rs : List FrameRange) (r : FrameRange) (n : ℕ) → set (slots rs ++ replicate (suc n) unused) (length rs) (used r) ≡ slots (rs ++ r ∷ []) ++ replicate n unused
@@ -37,48 +21,29 @@ next_early rs r h =
     let n : 32 - length rs ≡ suc (32 - length (rs ++ r ∷ [])) = omega (arith, length-append rs (r ∷ [])) in
     ap (λ (k : ℕ). set (slots rs ++ replicate k unused) (length rs) (used r)) n ∙ next_slot rs r (32 - length (rs ++ r ∷ []))
 
-take_next : (i : ℕ) (rs ts : List FrameRange) (r : FrameRange) → drop i rs ≡ r ∷ ts → take (suc i) rs ≡ take i rs ++ r ∷ []
-take_next zero rs ts r e = ap (λ (l : List FrameRange). take 1 l) e
-take_next (suc i) [] ts r e = absurd (let w : ◌≡◌ {A = ℕ} 0 1 = cc in omega arith)
-take_next (suc i) (x ∷ rs) ts r e = ap (λ (l : List FrameRange). x ∷ l) (take_next i rs ts r e)
+-- the slot at i takes the range, array by array
+abbrev pub stored : EarlyList → ℕ → FrameRange → EarlyList
+stored e i r = record { starts = set e.starts i r.start; ends = set e.ends i r.end; used = set e.used i true }
 
--- the slots with the first i ranges
-abbrev pub filled_to : ℕ → RangeList → List Slot
-filled_to i l = early (take i (ranges_in l))
+stored_slot : (s : List Slot) (i : ℕ) (r : FrameRange) → stored (early_of s) i r ≡ early_of (set s i (used r))
+unfolding early_of
+stored_slot s i r =
+    let starts = map-set (λ (x : Slot). (range_in x).start) s i (used r) in
+    let ends = map-set (λ (x : Slot). (range_in x).end) s i (used r) in
+    let used_are = map-set is_used s i (used r) in
+    λ k. record { starts = sym starts k; ends = sym ends k; used = sym used_are k }
 
-module _ (l : RangeList) (w : Whole l) (i : ℕ) where
-  few : length (take i (ranges_in l)) ≤ 32
-  few = omega (arith, length-take i (ranges_in l), whole_length l w, w.few)
+module _ (rs : List FrameRange) (few : length rs ≤ 32) (i : ℕ) (h : i < length rs) (e : EarlyList) (is : e ≡ early_of (early (take i rs))) where
+  pub filled_next : stored e i (get_or rs i (range 0 0)) ≡ early_of (early (take (i + 1) rs))
+  filled_next =
+      let r = get_or rs i (range 0 0) in
+      let n : length (take i rs) ≡ i = omega (arith, length-take i rs) in
+      ap (λ (x : EarlyList). stored x i r) is ∙ stored_slot (early (take i rs)) i r
+      ∙ ap early_of
+      (ap (λ (k : ℕ). set (early (take i rs)) k (used r)) (sym n)
+      ∙ next_early (take i rs) r (omega arith)
+      ∙ ap early (sym (take_more rs i (range 0 0) h)))
 
-  full : length (filled_to i l) ≡ 32
-  unfolding early
-  full = omega (arith, slots_fit (take i (ranges_in l)) (32 - length (take i (ranges_in l))), few)
-
-  module _ (e : EarlyList) (q : e ≡ early_of (filled_to i l)) where
-    has_slots : slots_of e ≡ filled_to i l
-    has_slots = ap slots_of q ∙ early_again (filled_to i l)
-
-    filled_early : IsEarly e
-    filled_early = record {
-      size = ap length has_slots ∙ full;
-      plain = ap early_of has_slots ∙ sym q;
-    }
-
-    pub filled_next : i < l.len → stored e i (used (range (get_or l.starts i 0) (get_or l.ends i 0))) ≡ early_of (filled_to (i + 1) l)
-    filled_next h =
-        let r : FrameRange = range (get_or l.starts i 0) (get_or l.ends i 0) in
-        let n : length (take i (ranges_in l)) ≡ i = omega (arith, length-take i (ranges_in l), whole_length l w) in
-        let t : take (i + 1) (ranges_in l) ≡ take i (ranges_in l) ++ r ∷ [] = ap (λ (k : ℕ). take k (ranges_in l)) (add-one i) ∙ take_next i (ranges_in l) _ r (range_at_holds l w i h) in
-        written e i (used r) filled_early
-        ∙ ap early_of
-        (ap (λ (s : List Slot). set s i (used r)) has_slots
-        ∙ ap (λ (k : ℕ). set (filled_to i l) k (used r)) (sym n)
-        ∙ next_early (take i (ranges_in l)) r (omega (arith, w.few))
-        ∙ ap early (sym t))
-
-    pub filled_end : l.len ≤ i → e ≡ early_of (early (ranges_in l))
-    filled_end h = q ∙ ap (λ (rs : List FrameRange). early_of (early rs)) (take_all i (ranges_in l) (omega (arith, whole_length l w)))
-
-pub filled_start : (l : RangeList) (e : EarlyList) → e ≡ early_of (replicate 32 unused) → e ≡ early_of (filled_to 0 l)
+pub filled_start : (e : EarlyList) → e ≡ early_of (replicate 32 unused) → e ≡ early_of (early [])
 unfolding early slots
-filled_start l e q = q
+filled_start e q = q

@@ -1,125 +1,99 @@
 -- The turns of joining: of the first area over the others, of a pass over the areas, and of the passes.
-use Prim.Native.Nat.{ℕ, ◌+◌, ◌≤◌, ◌<◌, min, max}
-use native.Mathlib.Omega.{arith}
-use mathlib.Core.Path.{◌≡◌, refl, sym, ap, ◌∙◌}
-use mathlib.Core.Bool.{true, false}
-use mathlib.Core.List.{List, [], ◌∷◌, ◌++◌, append_assoc, append-nil}
-use lib.ListN.{length, drop, get_or, drop_of_length-le}
+use Rattle.std.proofs.Common.{◌≡◌, ℕ, ◌+◌, ◌≤◌, ◌<◌, true, false, List, [], ◌∷◌, ◌++◌, length, get_or, drop, refl, sym, ap, ◌∙◌, arith, add-one, drop-cons}
+use mathlib.Core.List.{append_assoc, append-nil}
+use lib.ListN.{drop_of_length-le}
 use borrow.Author.Tests.{eq-eqb, ne_eqb}
-use Rattle.memory_structs.specs.Range.{range, meets}
+use Rattle.memory_structs.specs.Range.{range, meets, hull}
 use Rattle.memory_structs.specs.declared.range.FrameRange.{FrameRange}
 use Rattle.model.specs.Boot.{grown, left, pass, join}
 use Rattle.model.proofs.Boots.{left_length, pass_length}
 use Rattle.model.proofs.Joined.{one_pass, pass_step, join_step}
 use Rattle.carving.specs.declared.RangeList.{RangeList}
 use Rattle.carving.specs.Ranges.{listed, ranges_in, Whole, Appended}
-use Rattle.carving.proofs.Listed.{count, read_back, listed_whole, whole_length, range_at_holds}
-use Rattle.joining.specs.Joins.{first_grown, others_left}
+use Rattle.carving.proofs.Listed.{count, read_back, listed_whole, whole_length}
 
 -- what the first area, as it has grown, and the others from k on make
-pub record Absorbing (rs : List FrameRange) (s e : ℕ) (rest : RangeList) (k : ℕ) : Type 0 where
+pub record Absorbing (first : FrameRange) (others : List FrameRange) (area : FrameRange) (rest : RangeList) (k : ℕ) : Type 0 where
   pub ys : List FrameRange
   pub is : rest ≡ listed ys
-  pub grows : first_grown rs ≡ grown (range s e) (drop k rs)
-  pub leaves : others_left rs ≡ ys ++ left (range s e) (drop k rs)
+  pub grows : grown first others ≡ grown area (drop k others)
+  pub leaves : left first others ≡ ys ++ left area (drop k others)
 
-module _ (l : RangeList) (w : Whole l) where
-  abbrev rs : List FrameRange
-  rs = ranges_in l
+module _ (first : FrameRange) (others : List FrameRange) where
+  pub absorb_start : (rest : RangeList) → rest ≡ listed [] → Absorbing first others first rest 0
+  absorb_start rest e = record { ys = []; is = e; grows = refl; leaves = refl }
 
-  abbrev area : ℕ → FrameRange
-  area k = range (get_or l.starts k 0) (get_or l.ends k 0)
-
-  pub absorb_start : 0 < l.len → (rest : RangeList) → rest ≡ listed [] → Absorbing rs (area 0).start (area 0).end rest 1
-  unfolding first_grown others_left
-  absorb_start h rest e =
-      let d : rs ≡ area 0 ∷ drop 1 rs = range_at_holds l w 0 h in
-      record { ys = []; is = e; grows = ap first_grown d; leaves = ap others_left d }
-
-  module _ (s e : ℕ) (rest : RangeList) (k : ℕ) (a : Absorbing rs s e rest k) where
-    pub absorb_end : l.len ≤ k → (range s e ≡ first_grown rs) × (rest ≡ listed (others_left rs))
+  module _ (area : FrameRange) (rest : RangeList) (k : ℕ) (a : Absorbing first others area rest k) where
+    pub absorb_end : length others ≤ k → (area ≡ grown first others) × (rest ≡ listed (left first others))
     unfolding grown left
     absorb_end h =
-        let d : drop k rs ≡ [] = drop_of_length-le rs {i = k} (omega (arith, whole_length l w)) in
-        (sym (a.grows ∙ ap (grown (range s e)) d), a.is ∙ ap listed (sym (a.leaves ∙ ap (λ (x : List FrameRange). a.ys ++ left (range s e) x) d ∙ append-nil a.ys)))
+        let d : drop k others ≡ [] = drop_of_length-le others {i = k} h in
+        (sym (a.grows ∙ ap (grown area) d), a.is ∙ ap listed (sym (a.leaves ∙ ap (λ (x : List FrameRange). a.ys ++ left area x) d ∙ append-nil a.ys)))
 
-    module _ (h : k < l.len) where
-      pub absorb_met : meets (range s e) (area k) ≡ true → Absorbing rs (min s (area k).start) (max e (area k).end) rest (k + 1)
+    module _ (h : k < length others) where
+      abbrev other : FrameRange
+      other = get_or others k (range 0 0)
+
+      here : drop k others ≡ other ∷ drop (k + 1) others
+      here = drop-cons others k (range 0 0) h ∙ rw add-one
+
+      pub absorb_met : meets area other ≡ true → Absorbing first others (hull area other) rest (k + 1)
       unfolding grown left
       absorb_met m = record {
         ys = a.ys;
         is = a.is;
-        grows = a.grows ∙ ap (grown (range s e)) (range_at_holds l w k h) ∙ rw (grown, m);
-        leaves = a.leaves ∙ ap (λ (x : List FrameRange). a.ys ++ left (range s e) x) (range_at_holds l w k h) ∙ rw m;
+        grows = a.grows ∙ ap (grown area) here ∙ rw (grown, m);
+        leaves = a.leaves ∙ ap (λ (x : List FrameRange). a.ys ++ left area x) here ∙ rw m;
       }
 
-      pub absorb_not : meets (range s e) (area k) ≡ false → (next : RangeList) → Appended rest (area k ∷ []) next → Absorbing rs s e next (k + 1)
+      pub absorb_not : meets area other ≡ false → (next : RangeList) → Appended rest (other ∷ []) next → Absorbing first others area next (k + 1)
       unfolding grown left
       absorb_not m next p = record {
-        ys = a.ys ++ area k ∷ [];
+        ys = a.ys ++ other ∷ [];
         is = p a.ys a.is;
-        grows = a.grows ∙ ap (grown (range s e)) (range_at_holds l w k h) ∙ rw (grown, m);
-        leaves = a.leaves ∙ ap (λ (x : List FrameRange). a.ys ++ left (range s e) x) (range_at_holds l w k h) ∙ rw m
-            (sym (append_assoc a.ys (area k ∷ []) (left (range s e) (drop (k + 1) rs))));
+        grows = a.grows ∙ ap (grown area) here ∙ rw (grown, m);
+        leaves = a.leaves ∙ ap (λ (x : List FrameRange). a.ys ++ left area x) here ∙ rw m
+            (sym (append_assoc a.ys (other ∷ []) (left area (drop (k + 1) others))));
       }
 
 -- the areas passed over, and those left
 pub record Passing (rs : List FrameRange) (joined todo : RangeList) : Type 0 where
   pub ds : List FrameRange
-  pub ts : List FrameRange
   pub done : joined ≡ listed ds
-  pub todo_is : todo ≡ listed ts
-  pub few : length ts ≤ 32
-  pub whole : one_pass rs ≡ ds ++ one_pass ts
+  pub todo_whole : Whole todo
+  pub whole : one_pass rs ≡ ds ++ one_pass (ranges_in todo)
 
 pub passing_start : (l : RangeList) → Whole l → (joined : RangeList) → joined ≡ listed [] → Passing (ranges_in l) joined l
-passing_start l w joined e = record { ds = []; ts = ranges_in l; done = e; todo_is = w.is; few = omega (arith, whole_length l w, w.few); whole = refl }
+passing_start l w joined e = record { ds = []; done = e; todo_whole = w; whole = refl }
 
 module _ (rs : List FrameRange) (joined todo : RangeList) (p : Passing rs joined todo) where
-  pub todo_whole : Whole todo
-  todo_whole = listed_whole todo p.ts p.few p.todo_is
-
-  same : ranges_in todo ≡ p.ts
-  same = ap ranges_in p.todo_is ∙ read_back p.ts p.few
-
-  todo_length : length p.ts ≡ todo.len
-  todo_length = omega (arith, count todo p.ts p.todo_is, p.few)
-
-  pub passing_end : todo.len ≤ 0 → joined ≡ listed (one_pass rs)
+  pub passing_end : ranges_in todo ≡ [] → joined ≡ listed (one_pass rs)
   unfolding pass
-  passing_end h = go p.ts refl (omega (arith, todo_length))
+  passing_end e = p.done ∙ ap listed (sym (p.whole ∙ ap (λ (x : List FrameRange). p.ds ++ one_pass x) e ∙ nothing))
     where
-      go : (ts : List FrameRange) → p.ts ≡ ts → length ts ≡ 0 → joined ≡ listed (one_pass rs)
-      go [] e z = p.done ∙ ap listed (sym (p.whole ∙ ap (λ (x : List FrameRange). p.ds ++ one_pass x) e ∙ nothing))
-        where
-          nothing : p.ds ++ one_pass [] ≡ p.ds
-          nothing = append-nil p.ds
-      go (c ∷ os) e z = absurd (omega arith)
+      nothing : p.ds ++ one_pass [] ≡ p.ds
+      nothing = append-nil p.ds
 
-  pub passing_more : 0 < todo.len → (s e : ℕ) (rest next : RangeList) → range s e ≡ first_grown (ranges_in todo) → rest ≡ listed (others_left (ranges_in todo)) →
-      Appended joined (range s e ∷ []) next → Passing rs next rest × (rest.len < todo.len)
-  unfolding first_grown others_left
-  passing_more h s e rest next f o q = go p.ts refl (omega (arith, todo_length))
-    where
-      go : (ts : List FrameRange) → p.ts ≡ ts → length ts ≡ todo.len → Passing rs next rest × (rest.len < todo.len)
-      go [] t z = absurd (omega arith)
-      go (c ∷ os) t z =
-          let g : range s e ≡ grown c os = f ∙ ap first_grown (same ∙ t) in
-          let l : rest ≡ listed (left c os) = o ∙ ap (λ (x : List FrameRange). listed (others_left x)) (same ∙ t) in
-          let few : length (left c os) ≤ 32 = omega (arith, left_length c os, p.few, todo_length) in (
-            record {
-              ds = p.ds ++ range s e ∷ [];
-              ts = left c os;
-              done = q p.ds p.done;
-              todo_is = l;
-              few = few;
-              whole =
-                  p.whole ∙ ap (λ (x : List FrameRange). p.ds ++ one_pass x) t
-                  ∙ ap (λ (x : List FrameRange). p.ds ++ x) (pass_step c os ∙ ap (λ (x : FrameRange). x ∷ one_pass (left c os)) (sym g))
-                  ∙ sym (append_assoc p.ds (range s e ∷ []) (one_pass (left c os)));
-            },
-            omega (arith, count rest (left c os) l, left_length c os),
-          )
+  module _ (c : FrameRange) (os : List FrameRange) (is : ranges_in todo ≡ c ∷ os) (rest : RangeList) (l : rest ≡ listed (left c os)) where
+    few : length (left c os) < todo.len
+    few = omega (arith, left_length c os, whole_length todo p.todo_whole, ap length is)
+
+    pub passing_smaller : rest.len < todo.len
+    passing_smaller = omega (arith, few, count rest (left c os) l)
+
+    pub passing_more : (area : FrameRange) (next : RangeList) → area ≡ grown c os → Appended joined (area ∷ []) next → Passing rs next rest
+    passing_more area next g q =
+        let small : length (left c os) ≤ 32 = omega (arith, few, p.todo_whole.few) in
+        record {
+          ds = p.ds ++ area ∷ [];
+          done = q p.ds p.done;
+          todo_whole = listed_whole rest (left c os) small l;
+          whole =
+              p.whole ∙ ap (λ (x : List FrameRange). p.ds ++ one_pass x) is
+              ∙ ap (λ (x : List FrameRange). p.ds ++ x) (pass_step c os ∙ ap (λ (x : FrameRange). x ∷ one_pass (left c os)) (sym g))
+              ∙ sym (append_assoc p.ds (area ∷ []) (one_pass (left c os)))
+              ∙ ap (λ (x : List FrameRange). (p.ds ++ area ∷ []) ++ one_pass x) (sym (ap ranges_in l ∙ read_back (left c os) small));
+        }
 
 -- passes until one joins nothing
 pub join_ends : (l next : RangeList) → Whole l → next ≡ listed (one_pass (ranges_in l)) → l.len ≤ next.len → l ≡ listed (join (ranges_in l))

@@ -1,52 +1,20 @@
--- `are_disjoint`: at each turn nothing meets the pieces before i, so that what is left to say is of those from i on.
-use Prim.Native.Nat.{◌-◌}
-use mathlib.Core.Path.{◌≡◌, refl, sym, ◌∙◌}
-use native.Mathlib.Omega.{arith}
-use borrow.Author.Rules.{rules}
-use lib.ListN.{length}
-use Rattle.filling.proofs.Apart.{apart_end, meets_piece, meets_reserved, meets_none}
+-- `are_disjoint`: at each turn nothing meets the pieces passed, so that what is left to say is of those that are left.
+use Rattle.std.proofs.Common.{sym, ◌∙◌}
+use Rattle.carving.proofs.Listed.{first_of}
+use Rattle.filling.proofs.Apart.{meets_piece, meets_reserved, meets_none}
 use Rattle.filling.proofs.are_disjoint.Goals as goal
+use Rattle.filling.proofs.are_disjoint.Goals.{then-meets_any-via-then-meets_any, then-meets_any-via-else-meets_any+then-meets_any-2}
 
-pub loop-i-init : goal.loop-i-init
-loop-i-init c = (omega arith, refl)
+pub returns-then-meets_any : goal.returns-then-meets_any
+returns-then-meets_any c =
+    let is = first_of _ c.in-len1-up.len_at_least in
+    sym (c.loop-left.invariant ∙ elim c.then-meets_any.branch [
+      | then-meets_any-via-then-meets_any w ↦ meets_piece _ _ _ _ is (sym c.meets_any.ensures ∙ w.if-meets_any.true)
+      | then-meets_any-via-else-meets_any+then-meets_any-2 w ↦
+          meets_reserved _ _ _ _ is (sym c.meets_any.ensures ∙ w.if-meets_any.false) (sym w.meets_any-else-meets_any.ensures ∙ w.if-meets_any-2.true)
+    ])
 
-pub offset_bounds-pieces-i : goal.offset_bounds-pieces-i
-offset_bounds-pieces-i c = omega (arith, c.requires.whole.few)
-
-pub bounds-pieces-i : goal.bounds-pieces-i
-bounds-pieces-i c = omega (arith, c.requires.whole.few)
-
-pub offset_bounds-pieces-i-in-loop-i : goal.offset_bounds-pieces-i-in-loop-i
-offset_bounds-pieces-i-in-loop-i c = omega (arith, c.requires.whole.few)
-
-pub bounds-pieces-i-in-loop-i : goal.bounds-pieces-i-in-loop-i
-bounds-pieces-i-in-loop-i c = omega (arith, c.requires.whole.few)
-
-pub overflow_add-i : goal.overflow_add-i
-overflow_add-i c = omega (arith, c.requires.whole.few)
-
-pub meets_from-requires : goal.meets_from-requires
-meets_from-requires c = let starts : length c.args.pieces.starts ≡ 32 = search rules in
-    let ends : length c.args.pieces.ends ≡ 32 = search rules in record {
-      starts_len = (starts, ends);
-      len_bound = c.requires.whole.few;
-    }
-
-pub returns-then-meets_from : goal.returns-then-meets_from
-returns-then-meets_from c = sym (c.loop-i.invariant.1 ∙ meets_piece c.args.pieces c.args.reserved c.requires.whole c.loop-i.i c.loop-i-test.true c.meets_from.ensures c.if-meets_from.true)
-
-pub meets_from-requires-in-loop-i : goal.meets_from-requires-in-loop-i
-meets_from-requires-in-loop-i c = let starts : length c.args.reserved.starts ≡ 32 = search rules in
-    let ends : length c.args.reserved.ends ≡ 32 = search rules in record {
-      starts_len = (starts, ends);
-      len_bound = c.requires.whole_2.few;
-    }
-
-pub returns-then-meets_from-2 : goal.returns-then-meets_from-2
-returns-then-meets_from-2 c = sym (c.loop-i.invariant.1 ∙ meets_reserved c.args.pieces c.args.reserved c.requires.whole c.loop-i.i c.loop-i-test.true c.meets_from.ensures c.meets_from-in-loop-i.ensures c.if-meets_from.false c.if-meets_from-2.true)
-
-pub loop-i-preserved : goal.loop-i-preserved
-loop-i-preserved c = (omega (arith, c.loop-i-test.true), c.loop-i.invariant.1 ∙ meets_none c.args.pieces c.args.reserved c.requires.whole c.loop-i.i c.loop-i-test.true c.meets_from.ensures c.meets_from-in-loop-i.ensures c.if-meets_from.false c.if-meets_from-2.false)
-
-pub returns : goal.returns
-returns c = sym (c.loop-i.invariant.1 ∙ apart_end c.args.pieces c.args.reserved c.requires.whole c.loop-i.i c.requires.reserved_value c.loop-i-test.false)
+pub loop-left-preserved : goal.loop-left-preserved
+loop-left-preserved c =
+    c.loop-left.invariant
+    ∙ meets_none _ _ _ _ (first_of _ c.in-len1-up.len_at_least) (sym c.meets_any.ensures ∙ c.if-meets_any.false) (sym c.meets_any-else-meets_any.ensures ∙ c.if-meets_any-2.false)

@@ -1,18 +1,18 @@
 -- `absorb`: at each turn the first area has taken in what it met of those passed.
-use mathlib.Core.Path.{sym, ◌∙◌}
-use Rattle.carving.specs.Ranges.{range_list_of}
-use Rattle.joining.proofs.Joining.{absorb_start, absorb_met, absorb_not, absorb_end}
-use native.Mathlib.Omega.{arith}
+use Rattle.std.proofs.Common.{sym, ◌∙◌}
+use Rattle.joining.proofs.Joining.{absorb_met, absorb_not, absorb_end}
 use Rattle.joining.proofs.absorb.Goals as goal
+use Rattle.joining.proofs.absorb.Goals.{then-meets, else-meets}
 
-pub loop-k-init : goal.loop-k-init
-loop-k-init c = (omega arith, absorb_start c.args.l c.requires.whole c.requires.len_nonzero _ c.no_ranges-none.ensures)
-
-pub loop-k-preserved-then-meet : goal.loop-k-preserved-then-meet
-loop-k-preserved-then-meet c = rw (c.lowest-start.ensures, c.highest-end.ensures) (omega arith, absorb_met c.args.l c.requires.whole c.loop-k.start c.loop-k.end (range_list_of c.loop-k.starts c.loop-k.ends c.loop-k.len) c.loop-k.k c.loop-k.invariant.1 (omega arith) (sym c.meet.ensures ∙ c.if-meet.true))
-
-pub loop-k-preserved : goal.loop-k-preserved
-loop-k-preserved c = (omega arith, absorb_not c.args.l c.requires.whole c.loop-k.start c.loop-k.end (range_list_of c.loop-k.starts c.loop-k.ends c.loop-k.len) c.loop-k.k c.loop-k.invariant.1 (omega arith) (sym c.meet.ensures ∙ c.if-meet.false) _ c.push_at-len.ensures)
+pub loop-other-preserved : goal.loop-other-preserved
+loop-other-preserved c =
+    let turn = c.loop-other.invariant in
+    elim c.if-meets.branch [
+      | then-meets w ↦ rw (w.area-is, w.rest-is, w.new-area.ensures, w.min.ensures, w.max.ensures) (absorb_met _ _ _ _ _ turn c.loop-other-test.true (sym c.meets.ensures ∙ w.if-meets.true))
+      | else-meets w ↦ rw (w.area-is, w.rest-is) (absorb_not _ _ _ _ _ turn c.loop-other-test.true (sym c.meets.ensures ∙ w.if-meets.false) _ w.push.ensures)
+    ]
 
 pub returns : goal.returns
-returns c = absorb_end c.args.l c.requires.whole c.loop-k.start c.loop-k.end (range_list_of c.loop-k.starts c.loop-k.ends c.loop-k.len) c.loop-k.k c.loop-k.invariant.1 c.loop-k-test.false
+returns c =
+    let end = absorb_end _ _ _ _ _ c.loop-other.invariant c.loop-other-test.false in
+    record { area = end.0; rest = end.1 }

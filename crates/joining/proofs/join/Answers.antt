@@ -1,18 +1,13 @@
 -- `join`: each pass that joins something leaves fewer areas, to be joined in turn.
-use mathlib.Core.Path.{refl, sym, ap, ◌∙◌}
+use Rattle.std.proofs.Common.{sym, ap, ◌∙◌}
 use Rattle.carving.specs.Ranges.{listed}
 use Rattle.joining.proofs.Joining.{join_ends, join_again}
 use Rattle.joining.proofs.join.Goals as goal
 
-pub loop-l-init : goal.loop-l-init
-loop-l-init c = (c.requires, refl)
+pub returns-then-areas-next : goal.returns-then-areas-next
+returns-then-areas-next c = join_ends c.loop-areas.areas _ c.loop-areas.invariant.whole c.pass-next.ensures c.if-areas-next.true ∙ ap listed (sym c.loop-areas.invariant.same)
 
-pub pass-next-requires : goal.pass-next-requires
-pass-next-requires c = c.loop-l.invariant.0
-
-pub returns-then-l-next : goal.returns-then-l-next
-returns-then-l-next c = join_ends c.loop-l.l _ c.loop-l.invariant.0 c.pass-next.ensures c.if-l-next.true ∙ ap listed (sym c.loop-l.invariant.1)
-
-pub loop-l-preserved : goal.loop-l-preserved
-loop-l-preserved c = let next = join_again c.loop-l.l _ c.loop-l.invariant.0 c.pass-next.ensures c.if-l-next.false in
-    (next.0, c.loop-l.invariant.1 ∙ next.1)
+pub loop-areas-preserved : goal.loop-areas-preserved
+loop-areas-preserved c =
+    let next = join_again c.loop-areas.areas _ c.loop-areas.invariant.whole c.pass-next.ensures c.if-areas-next.false in
+    record { whole = next.0; same = c.loop-areas.invariant.same ∙ next.1 }
