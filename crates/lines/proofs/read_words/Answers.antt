@@ -3,17 +3,17 @@ use mathlib.Core.Path.{◌≡◌, sym, ap, ◌∙◌}
 use lib.ListN.{drop}
 use native.Mathlib.Omega.{arith}
 use Rattle.lines.specs.Words.{Filled, filled, put_word, put_all, words_after}
-use Rattle.lines.specs.declared.Word.{Word}
+use Rattle.std.proofs.Common.{Option, ℕ}
 use Rattle.lines.specs.declared.Reading.{Reading}
 use Rattle.lines.proofs.Words.{put_turn, put_ends, put_within}
 use Rattle.lines.proofs.read_words.Goals as goal
 
 pub loop-at-init : goal.loop-at-init
 loop-at-init c = let a = c.args in
-    let none : c.nothing_read-read.result.len ≡ 0 = ap (λ (r : Reading). r.len) c.nothing_read-read.ensures in (
+    let none : c.nothing-read.result.len ≡ 0 = ap (λ (r : Reading). r.len) c.nothing-read.ensures in (
       omega (arith, none),
       sym (ap (λ (r : Reading). put_all a.layout (words_after (drop a.name_end a.line.now)) (filled r a.numbers.now))
-          c.nothing_read-read.ensures),
+          c.nothing-read.ensures),
     )
 
 pub loop-at-preserved : goal.loop-at-preserved
@@ -25,7 +25,7 @@ loop-at-preserved c = let a = c.args in
     ap (λ (q : Filled). q.reading.len) c.put-read.ensures in (
       omega (arith, counted, put_within c.next_word.result v.read v.numbers v.invariant.0),
       v.invariant.1 ∙ put_turn a.layout bs v.at e v.read v.numbers (omega arith) c.find-at.ensures.first
-          ∙ sym (ap (λ (w : Word). put_all a.layout (words_after (drop e bs)) (put_word w v.read v.numbers)) c.next_word.ensures)
+          ∙ sym (ap (λ (w : Option ℕ). put_all a.layout (words_after (drop e bs)) (put_word w v.read v.numbers)) c.next_word.ensures)
           ∙ sym (ap (put_all a.layout (words_after (drop e bs))) c.put-read.ensures),
     )
 
