@@ -3,16 +3,17 @@ use native.Mathlib.Omega.{arith}
 use Prim.Native.Nat.{ℕ, suc, ◌+◌, ◌-◌, ◌*◌, ◌^◌, ◌≤◌, ◌<◌}
 use native.Mathlib.Numerals.{add-one}
 use mathlib.Core.Path.{◌≡◌, refl, sym, ap, ◌∙◌}
-use mathlib.Core.Bool.{Bool, true, false, cond, ◌&&◌, false≢true}
+use mathlib.Core.Bool.{Bool, true, false, cond, ◌&&◌}
 use mathlib.Core.List.{List, [], ◌∷◌}
-use lib.ListN.{length, get_or, take, drop, set, drop_of_length-le, length-drop}
-use lib.Seq.{drop-cons, drop-drop, take_all, take-length}
-use lib.Dec.{leb, ltb, eqb}
-use borrow.Author.Tests.{ltb-true, leb-true, le-leb, lt-leb, lt-ltb, le-ltb, eqb-true, eq-eqb, ne_eqb}
-use Rattle.lines.specs.Bytes.{slice, index_of, index_after}
-use Rattle.lines.specs.Words.{number, with_digit, with_byte, with_bytes, decimal_of, in_front, words_in, words_after}
-use Rattle.lines.specs.Words.{kind_number, word_of_area, next_word}
-use Rattle.lines.specs.Words.{Filled, filled, invalid, put_number, put_word, put_all}
+use lib.ListN.{length, get_or, take, drop, drop_of_length-le, length-drop}
+use lib.Seq.{drop-cons, take_all}
+use lib.Dec.{leb, ltb}
+use borrow.Author.Tests.{ltb-true, leb-true, le-leb, lt-leb, lt-ltb, le-ltb}
+use Rattle.lines.specs.Words.{number, with_digit, with_byte, with_bytes, decimal_of}
+use Rattle.lines.specs.Words.{next_word}
+use Rattle.lines.specs.Words.{Filled, filled, put_number, put_word, put_all}
+use denote.Ref.{Bor}
+use Rattle.std.proofs.Common.{map, ◌++◌}
 use Rattle.std.proofs.Common.{Option, Some, None}
 use Rattle.lines.specs.declared.Reading.{Reading}
 use Rattle.lines.specs.declared.Layout.{Layout}
@@ -68,67 +69,11 @@ pub decimal_ends : (bs : List ℕ) (n i : ℕ) → decimal_of bs ≡ with_bytes 
 unfolding with_bytes
 decimal_ends bs n i so_far all = sym (so_far ∙ rw (drop_of_length-le bs all))
 
--- ---- the words of an area
-
-pub area_kind : (place : ℕ) (t : List ℕ) → place ≡ 2 → kind_number t ≡ word_of_area place t
-unfolding word_of_area
-area_kind place t e = rw (eq-eqb place 2 e)
-
-pub area_number : (place : ℕ) (t : List ℕ) → (place ≡ 2 → ⊥) → decimal_of t ≡ word_of_area place t
-unfolding word_of_area
-area_number place t n = rw (ne_eqb place 2 n)
-
--- ---- a number in its place
-
-pub put_fits : (n : ℕ) (r : Reading) (ws : List ℕ) → r.len < length ws → filled (record { len = r.len + 1; valid = r.valid }) (set ws r.len n) ≡ put_number n r ws
-unfolding put_number
-put_fits n r ws room = rw (lt-ltb r.len (length ws) room)
-
-pub put_full : (n : ℕ) (r : Reading) (ws : List ℕ) → length ws ≤ r.len → filled (invalid r) ws ≡ put_number n r ws
-unfolding put_number
-put_full n r ws full = rw (le-ltb r.len (length ws) full)
-
--- ---- the words of a text
-
 -- a part that reaches to the end
 pub to_end : (n : ℕ) (l : List ℕ) → take (length l - n) (drop n l) ≡ drop n l
 to_end n l = take_all (length l - n) (drop n l) (omega (arith, length-drop n l))
 
-after_byte : (t : Bool) (b : ℕ) (bs : List ℕ) → words_in bs ≡ take (index_of 32 bs) bs ∷ words_after (drop (index_of 32 bs) bs) →
-    cond t ([] ∷ words_in bs) (in_front b (words_in bs)) ≡ take (index_after t (index_of 32 bs)) (b ∷ bs) ∷ words_after (drop (index_after t (index_of 32 bs)) (b ∷ bs))
-unfolding index_after words_after in_front
-after_byte true b bs e = refl
-after_byte false b bs e = ap (in_front b) e
-
--- the first word ends before the first space
-pub first_word : (bs : List ℕ) → words_in bs ≡ take (index_of 32 bs) bs ∷ words_after (drop (index_of 32 bs) bs)
-unfolding words_in words_after index_of
-first_word [] = refl
-first_word (b ∷ bs) = after_byte (eqb b 32) b bs (first_word bs)
-
--- a turn takes the space at i and the word up to the next one, at e
-word_turn : (bs : List ℕ) (i e : ℕ) → i < length bs → e ≡ (i + 1) + index_of 32 (slice (i + 1) (length bs) bs) →
-    words_after (drop i bs) ≡ take (e - (i + 1)) (drop (i + 1) bs) ∷ words_after (drop e bs)
-unfolding words_after slice
-word_turn bs i e more next =
-    let k = index_of 32 (drop (i + 1) bs) in
-    let end : e ≡ (i + 1) + k = next ∙ ap (λ (xs : List ℕ). (i + 1) + index_of 32 (drop (i + 1) xs)) (take-length bs) in
-    let long : e - (i + 1) ≡ k = omega (arith, end) in
-    ap words_after (drop-cons bs i 0 more)
-    ∙ ap (λ (n : ℕ). words_in (drop n bs)) (sym (add-one i))
-    ∙ first_word (drop (i + 1) bs)
-    ∙ rw (long, end, drop-drop k (i + 1) bs)
-
-pub put_turn : (l : Layout) (bs : List ℕ) (i e : ℕ) (r : Reading) (ws : List ℕ) →
-    i < length bs → e ≡ (i + 1) + index_of 32 (slice (i + 1) (length bs) bs) →
-    put_all l (words_after (drop i bs)) (filled r ws)
-    ≡ put_all l (words_after (drop e bs)) (put_word (next_word l r (take (e - (i + 1)) (drop (i + 1) bs))) r ws)
-unfolding put_all
-put_turn l bs i e r ws more next = ap (λ (ts : List (List ℕ)). put_all l ts (filled r ws)) (word_turn bs i e more next)
-
-pub put_ends : (l : Layout) (bs : List ℕ) (i : ℕ) (p : Filled) → length bs ≤ i → put_all l (words_after (drop i bs)) p ≡ p
-unfolding put_all words_after
-put_ends l bs i p all = rw (drop_of_length-le bs all)
+-- ---- numbers in their places
 
 number_within : (n : ℕ) (r : Reading) (ws : List ℕ) (t : Bool) → ltb r.len (length ws) ≡ t → r.len ≤ length ws →
     (put_number n r ws).reading.len ≤ length ws
@@ -141,3 +86,10 @@ pub put_within : (w : Option ℕ) (r : Reading) (ws : List ℕ) → r.len ≤ le
 unfolding put_word
 put_within (Some n) r ws in_place = number_within n r ws (ltb r.len (length ws)) refl in_place
 put_within None r ws in_place = in_place
+
+-- one word more
+pub put_more : (l : Layout) (ts : List (Bor (List ℕ))) (t : Bor (List ℕ)) (p q : Filled) (w : Option ℕ) (r : Reading) (ws : List ℕ) →
+    filled r ws ≡ put_all l (map (λ x. x.now) ts) p → w ≡ next_word l r t.now → q ≡ put_word w r ws → q ≡ put_all l (map (λ x. x.now) (ts ++ (t ∷ []))) p
+unfolding put_all
+put_more l [] t p q w r ws so_far word put = put ∙ ap (λ (v : Option ℕ). put_word v r ws) word ∙ ap (λ (f : Filled). put_word (next_word l f.reading t.now) f.reading f.numbers) so_far
+put_more l (x ∷ ts) t p q w r ws so_far word put = put_more l ts t (put_word (next_word l p.reading x.now) p.reading p.numbers) q w r ws so_far word put

@@ -1,5 +1,6 @@
 -- The words of a line, the numbers that they stand for, and where these go. A text is a list of bytes.
-use Rattle.std.specs.Prelude.{ℕ, ◌+◌, ◌-◌, ◌*◌, ◌^◌, ◌%◌, Bool, true, false, cond, ◌&&◌, List, [], ◌∷◌, Option, Some, None, length, set, leb, ltb, eqb}
+use Rattle.std.specs.Prelude.{ℕ, ◌+◌, ◌-◌, ◌*◌, ◌^◌, ◌%◌, Bool, true, false, cond, ◌&&◌, List, [], ◌∷◌, Option, Some, None, length, set, leb, ltb, eqb, ◌==◌}
+use Rattle.std.specs.List.{slice_split}
 use Rattle.std.specs.Str.{bytes_eq}
 use Rattle.lines.specs.declared.Reading.{Reading}
 use Rattle.lines.specs.declared.Layout.{Layout}
@@ -28,15 +29,9 @@ unfoldable pub decimal_of : List ℕ → Option ℕ
 decimal_of [] = None
 decimal_of (b ∷ bs) = with_bytes (Some 0) (b ∷ bs)
 
--- the words, the byte in front of the first
-unfoldable pub in_front : ℕ → List (List ℕ) → List (List ℕ)
-in_front b [] = []
-in_front b (w ∷ ws) = (b ∷ w) ∷ ws
-
 -- the words of a text, parted by one space each, which is 32: a text with no space is one word, which may be empty
-unfoldable pub words_in : List ℕ → List (List ℕ)
-words_in [] = [] ∷ []
-words_in (b ∷ bs) = cond (eqb b 32) ([] ∷ words_in bs) (in_front b (words_in bs))
+abbrev pub words_in : List ℕ → List (List ℕ)
+words_in t = slice_split (λ b. b == 32) t
 
 -- the words of what follows a name: none, or a space and the words
 unfoldable pub words_after : List ℕ → List (List ℕ)

@@ -80,34 +80,25 @@ pub fn read_words(line: &[u8], name_end: usize, layout: Layout, numbers: &mut [u
     ensures len_in_bounds { result.len ≤ length numbers.new }
 {
     let mut read = Reading::nothing();
-    let mut at = name_end;
-    while at < line.len() {
-        // Past the space.
-        let start = at + 1;
-        at = find(line, start, line.len(), b' ');
-        read = read.put(next_word(layout, read, &line[start..at]), numbers);
+    if line.len() <= name_end {
+        return read;
+    }
+    // Past the space.
+    for word in line[name_end + 1..].split(|b| *b == b' ') {
+        read = read.put(next_word(layout, read, word), numbers);
     }
     read
 }
 
 // The third word of an area is its kind.
-#[tactic(auto, unfolding(crate::specs::Words::next_word))]
+#[tactic(auto, unfolding(crate::specs::Words::next_word, crate::specs::Words::word_of_area))]
 fn next_word(layout: Layout, r: Reading, text: &[u8]) -> Option<u64>
     ensures { result ≡ words.next_word layout r text.now }
 {
     match layout {
-        Layout::Numbers => decimal(text),
-        Layout::Areas => word_of_area(r.len % 3, text),
+        Layout::Areas if r.len % 3 == 2 => kind(text),
+        _ => decimal(text),
     }
-}
-
-fn word_of_area(place: usize, text: &[u8]) -> Option<u64>
-    ensures { result ≡ words.word_of_area place text.now }
-{
-    if place == 2 {
-        return kind(text);
-    }
-    decimal(text)
 }
 
 // 0 for `general` and 1 for `reserved`, as boot takes them.
