@@ -107,8 +107,8 @@ fn kind(text: &[u8]) -> Option<u64>
     ensures { result ≡ words.kind_number text.now }
 {
     match text {
-        _ if text == b"general".as_slice() => Some(0),
-        _ if text == b"reserved".as_slice() => Some(1),
+        b"general" => Some(0),
+        b"reserved" => Some(1),
         _ => None,
     }
 }
