@@ -1,6 +1,6 @@
 -- A line that comes in parts, held in a buffer.
 use native.Mathlib.Omega.{arith}
-use Prim.Native.Nat.{ℕ, zero, suc, ◌+◌, ◌-◌, ◌≤◌, ◌<◌}
+use Prim.Native.Nat.{ℕ, zero, suc, ◌+◌, ◌-◌, ◌≤◌, ◌<◌, min}
 use mathlib.Core.Path.{◌≡◌, refl, sym, ap, ◌∙◌}
 use mathlib.Core.Bool.{Bool, true, false}
 use mathlib.Core.List.{List, [], ◌∷◌, ◌++◌, append_assoc, append-nil}
@@ -40,6 +40,14 @@ pub held_as : (line more part : List ℕ) (n m k r : ℕ) → n ≤ length line 
     take (length line - n) more ≡ take k more → r ≡ n + k → LineHeld (take n line ++ more) (put_mid n m line part) r
 held_as line more part n m k r in-line some room wide is all answered =
     rw (wide, is, answered) (held line more n k in-line some room all)
+
+-- as many as there are, or as have room
+pub as_many : (more : List ℕ) (room n : ℕ) → n ≡ min (length more) room → take room more ≡ take n more
+as_many more room n is = go (leb (length more) room) refl
+  where
+    go : (t : Bool) → leb (length more) room ≡ t → take room more ≡ take n more
+    go true e = take_all room more (leb-true (length more) room e) ∙ sym (take_all n more (omega (arith, leb-true (length more) room e)))
+    go false e = let same : room ≡ n = omega (arith, leb-false (length more) room e) in ap (λ (k : ℕ). take k more) same
 
 take_again : (n : ℕ) (a b : List ℕ) → take n (take n a ++ b) ≡ take n (a ++ b)
 take_again zero a b = refl

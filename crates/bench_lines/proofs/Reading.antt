@@ -1,114 +1,98 @@
--- Laws of forms: the words between the brackets, and a line that comes in parts.
+-- Laws of forms: the words between the brackets, and a line by its length and its brackets.
 use native.Mathlib.Omega.{arith}
-use Prim.Native.Nat.{ℕ, ◌+◌, ◌-◌, ◌≤◌, ◌<◌}
-use native.Mathlib.Numerals.{add-one}
+use Prim.Native.Nat.{ℕ, suc, ◌-◌, ◌≤◌, ◌<◌}
 use mathlib.Core.Path.{◌≡◌, refl, sym, ap, ◌∙◌}
 use mathlib.Core.Bool.{Bool, true, false}
 use mathlib.Core.List.{List, [], ◌∷◌}
-use lib.ListN.{length, take, drop}
-use lib.Seq.{drop-cons, take-length, drop-length}
+use mathlib.Core.Logic.{◌≢◌}
+use mathlib.Core.Bool.{◌&&◌}
+use lib.ListN.{length, take, drop, get_or, drop_of_length-le}
+use lib.Seq.{drop-cons}
 use lib.Dec.{eqb}
-use borrow.Author.Tests.{eqb-true, le-leb, lt-leb, lt-ltb, le-ltb}
-use Rattle.lines.specs.Bytes.{slice, index_of}
-use Rattle.lines.specs.Words.{with_byte, with_bytes, decimal_of, in_front, words_in, words_after, same_text}
-use Rattle.lines.specs.declared.Word.{Word}
-use Rattle.lines.specs.declared.Word.TheVariants.{Number, Nothing}
-use Rattle.lines.proofs.Words.{first_word, below_digits}
-use Rattle.bench_lines.specs.Commands.{opening_text, closing_text, with_two, command_in, is_form, inside, command_of}
-use Rattle.bench_lines.specs.declared.Command.TheVariants.{Bad}
+use Rattle.std.specs.Str.{bytes_eq}
+use borrow.Author.Tests.{le-leb, lt-leb, lt-ltb, le-ltb, eq-eqb, ne_eqb}
+use Rattle.std.proofs.Common.{Option, Some, None}
+use Rattle.std.proofs.lemmas.Iterator.{YieldsList}
+use Rattle.std.specs.Iterator.{AlwaysYields}
+use Rattle.lines.specs.Words.{words_in}
+use Rattle.bench_lines.specs.Commands.{command_in, is_form, inside, command_of}
 
--- ---- a text with a space is no number
-
-nothing_stays : (bs : List ℕ) → with_bytes Nothing bs ≡ Nothing
-unfolding with_bytes with_byte
-nothing_stays [] = refl
-nothing_stays (b ∷ bs) = nothing_stays bs
-
-space_stops : (w : Word) → with_byte w 32 ≡ Nothing
-unfolding with_byte
-space_stops (Number n) = sym (below_digits n 32 (omega arith))
-space_stops Nothing = refl
-
--- a text is one word, or has a space and is no number
-data Parted (t : List ℕ) : Type 0 where
-  whole : words_in t ≡ t ∷ [] → Parted t
-  parted : (a b : List ℕ) (ws : List (List ℕ)) → words_in t ≡ a ∷ b ∷ ws → ((w : Word) → with_bytes w t ≡ Nothing) → Parted t
-
-parted_after : (x : ℕ) (xs : List ℕ) (space : Bool) → eqb x 32 ≡ space → Parted xs → Parted (x ∷ xs)
-unfolding words_in with_bytes in_front
-parted_after x xs false e (whole one) = whole (rw (e, one))
-parted_after x xs false e (parted a b ws more none) = parted (x ∷ a) b ws (rw (e, more)) (λ w. none (with_byte w x))
-parted_after x xs true e p = go p
-  where
-    stops : (w : Word) → with_bytes (with_byte w x) xs ≡ Nothing
-    stops w = ap (λ (b : ℕ). with_bytes (with_byte w b) xs) (eqb-true x 32 e) ∙ ap (λ (v : Word). with_bytes v xs) (space_stops w) ∙ nothing_stays xs
-
-    go : Parted xs → Parted (x ∷ xs)
-    go (whole one) = parted [] xs [] (rw (e, one)) stops
-    go (parted a b ws more none) = parted [] a (b ∷ ws) (rw (e, more)) stops
-
-parted_of : (t : List ℕ) → Parted t
-unfolding words_in
-parted_of [] = whole refl
-parted_of (x ∷ xs) = parted_after x xs (eqb x 32) refl (parted_of xs)
-
--- ---- the words of a form, as they are found
-
-found : (t : List ℕ) (e : ℕ) → e ≡ 0 + index_of 32 (slice 0 (length t) t) → e ≡ index_of 32 t
-unfolding slice
-found t e is = is ∙ ap (λ (xs : List ℕ). 0 + index_of 32 xs) (take-length t) ∙ (omega arith)
-
--- no space: one word
-pub word_alone : (t : List ℕ) (e : ℕ) → e ≡ 0 + index_of 32 (slice 0 (length t) t) → e ≡ length t → words_in t ≡ t ∷ []
-unfolding words_after
-word_alone t e is all =
-    let at : index_of 32 t ≡ length t = sym (found t e is) ∙ all in
-    first_word t ∙ rw (at, take-length t, drop-length t)
-
--- a space at e: the first word ends there
-pub word_first : (t : List ℕ) (e : ℕ) → e ≡ 0 + index_of 32 (slice 0 (length t) t) → e < length t → words_in t ≡ take e t ∷ words_in (drop (e + 1) t)
-unfolding words_after
-word_first t e is more =
-    first_word t ∙ rw (sym (found t e is), drop-cons t e 0 more, add-one e)
-
-no_second : (name : List ℕ) (w : Word) → Bad ≡ with_two name w Nothing
-unfolding with_two
-no_second name (Number n) = refl
-no_second name Nothing = refl
-
--- the text after the first number is the second, or none
-pub second_number : (name a t : List ℕ) → with_two name (decimal_of a) (decimal_of t) ≡ command_in (name ∷ a ∷ words_in t)
-unfolding command_in decimal_of
-second_number name a t = go (parted_of t)
-  where
-    none : (t : List ℕ) → with_bytes (Number 0) t ≡ Nothing → decimal_of t ≡ Nothing
-    none [] e = refl
-    none (b ∷ bs) e = e
-
-    go : Parted t → with_two name (decimal_of a) (decimal_of t) ≡ command_in (name ∷ a ∷ words_in t)
-    go (whole one) = rw one
-    go (parted b d ws more bare) = rw (more, none t (bare (Number 0))) (sym (no_second name (decimal_of a)))
+and_true : (t : Bool) → (t && true) ≡ t
+and_true true = refl
+and_true false = refl
 
 -- ---- a line by its length and its brackets
 
 module _ (line : List ℕ) where
-  pub too_long : 128 < length line → Bad ≡ command_of line
+  pub too_long : 128 < length line → None ≡ command_of line
   unfolding command_of
   too_long h = rw (lt-ltb 128 (length line) h)
 
-  pub too_short : length line < 2 → Bad ≡ command_of line
+  pub too_short : length line < 2 → None ≡ command_of line
   unfolding command_of is_form
   too_short h = rw (le-ltb 128 (length line) (omega arith), lt-leb 2 (length line) h)
 
+  first : 2 ≤ length line → (x : ℕ) → bytes_eq (take 1 line) (x ∷ []) ≡ eqb (get_or line 0 0) x
+  first long = go line long
+    where
+      go : (l : List ℕ) → 2 ≤ length l → (x : ℕ) → bytes_eq (take 1 l) (x ∷ []) ≡ eqb (get_or l 0 0) x
+      go [] long x = absurd (omega arith)
+      go (b ∷ l) long x = and_true (eqb b x)
+
+  last : 2 ≤ length line → (x : ℕ) → bytes_eq (drop (length line - 1) line) (x ∷ []) ≡ eqb (get_or line (length line - 1) 0) x
+  last long x =
+      let none : drop (suc (length line - 1)) line ≡ [] = drop_of_length-le line {i = suc (length line - 1)} (omega arith) in
+      rw (drop-cons line (length line - 1) 0 (omega arith), none) (and_true (eqb (get_or line (length line - 1) 0) x))
+
   module _ (short : length line ≤ 128) (long : 2 ≤ length line) where
-    pub not_opened : same_text (take 1 line) opening_text ≡ false → Bad ≡ command_of line
+    pub not_opened : get_or line 0 0 ≢ 40 → None ≡ command_of line
     unfolding command_of is_form
-    not_opened o = rw (le-ltb 128 (length line) short, le-leb 2 (length line) long, o)
+    not_opened o = rw (le-ltb 128 (length line) short, le-leb 2 (length line) long, first long 40, ne_eqb (get_or line 0 0) 40 o)
 
-    pub not_closed : same_text (take 1 line) opening_text ≡ true → same_text (drop (length line - 1) line) closing_text ≡ false → Bad ≡ command_of line
+    pub not_closed : get_or line 0 0 ≡ 40 → get_or line (length line - 1) 0 ≢ 41 → None ≡ command_of line
     unfolding command_of is_form
-    not_closed o e = rw (le-ltb 128 (length line) short, le-leb 2 (length line) long, o, e)
+    not_closed o e = rw (le-ltb 128 (length line) short, le-leb 2 (length line) long, first long 40, eq-eqb (get_or line 0 0) 40 o, last long 41, ne_eqb (get_or line (length line - 1) 0) 41 e)
 
-    pub form : same_text (take 1 line) opening_text ≡ true → same_text (drop (length line - 1) line) closing_text ≡ true → command_in (words_in (inside line)) ≡ command_of line
+    pub form : get_or line 0 0 ≡ 40 → get_or line (length line - 1) 0 ≡ 41 → command_in (words_in (inside line)) ≡ command_of line
     unfolding command_of is_form
-    form o e = rw (le-ltb 128 (length line) short, le-leb 2 (length line) long, o, e)
+    form o e = rw (le-ltb 128 (length line) short, le-leb 2 (length line) long, first long 40, eq-eqb (get_or line 0 0) 40 o, last long 41, eq-eqb (get_or line (length line - 1) 0) 41 e)
+
+-- ---- the words that calls of `next` give
+
+module _ {S A B : Type 0} (steps : S → Option A → S → Type 0) (v : A → B) where
+  none_left : (ts : List B) (s t : S) → AlwaysYields steps v s ts → steps s None t → ts ≡ []
+  none_left [] s t all step = refl
+  none_left (y ∷ ys) s t all step = absurd (all.0 t step)
+
+  one_left : (ts : List B) (s t : S) (x : A) → AlwaysYields steps v s ts → steps s (Some x) t → (rest : List B) × (ts ≡ v x ∷ rest) × AlwaysYields steps v t rest
+  one_left [] s t x all step = absurd (all x t step)
+  one_left (y ∷ ys) s t x all step = let m = all.1 x t step in (ys, ap (λ (z : B). z ∷ ys) (sym m.0), m.1)
+
+module _ {S A B : Type 0} {steps : S → Option A → S → Type 0} {v : A → B} {ts : List B} {s : S} (t u : S) (all : YieldsList steps v s ts) (a : A) (first : steps s (Some a) t) where
+  pub one_word : steps t None u → ts ≡ v a ∷ []
+  one_word end = let m = one_left steps v ts s t a all.runs first in m.1 ∙ ap (◌∷◌ (v a)) (none_left steps v m.0 t u m.2 end)
+
+  module _ (b : A) (second : steps t (Some b) u) where
+    two_left : (rest : List B) × (ts ≡ v a ∷ v b ∷ rest) × AlwaysYields steps v u rest
+    two_left =
+        let m = one_left steps v ts s t a all.runs first in
+        let n = one_left steps v m.0 t u b m.2 second in
+        (n.0, m.1 ∙ ap (◌∷◌ (v a)) n.1, n.2)
+
+    pub two_words : (w : S) → steps u None w → ts ≡ v a ∷ v b ∷ []
+    two_words w end = let m = two_left in m.1 ∙ ap (λ (l : List B). v a ∷ v b ∷ l) (none_left steps v m.0 u w m.2 end)
+
+    three_left : (w : S) (c : A) → steps u (Some c) w → (rest : List B) × (ts ≡ v a ∷ v b ∷ v c ∷ rest) × AlwaysYields steps v w rest
+    three_left w c third =
+        let m = two_left in
+        let n = one_left steps v m.0 u w c m.2 third in
+        (n.0, m.1 ∙ ap (λ (l : List B). v a ∷ v b ∷ l) n.1, n.2)
+
+    pub three_words : (w x : S) (c : A) → steps u (Some c) w → steps w None x → ts ≡ v a ∷ v b ∷ v c ∷ []
+    three_words w x c third end = let m = three_left w c third in m.1 ∙ ap (λ (l : List B). v a ∷ v b ∷ v c ∷ l) (none_left steps v m.0 w x m.2 end)
+
+    pub more_words : (w x : S) (c d : A) → steps u (Some c) w → steps w (Some d) x → (rest : List B) × (ts ≡ v a ∷ v b ∷ v c ∷ v d ∷ rest)
+    more_words w x c d third fourth =
+        let m = three_left w c third in
+        let n = one_left steps v m.0 w x d m.2 fourth in
+        (n.0, m.1 ∙ ap (λ (l : List B). v a ∷ v b ∷ v c ∷ l) n.1)

@@ -1,10 +1,9 @@
 -- The commands of the bench program. The words in quotes are document 01's. A text is a list of bytes.
-use Rattle.std.specs.Prelude.{ℕ, ◌-◌, Bool, cond, ◌&&◌, List, [], ◌∷◌, length, take, drop, leb, ltb}
-use Rattle.lines.specs.Words.{decimal_of, words_in, same_text, reserved_text}
-use Rattle.lines.specs.declared.Word.{Word}
-use Rattle.lines.specs.declared.Word.TheVariants.{Number, Nothing}
+use Rattle.std.specs.Prelude.{ℕ, ◌-◌, Bool, cond, ◌&&◌, Option, Some, None, List, [], ◌∷◌, length, take, drop, leb, ltb}
+use Rattle.std.specs.Str.{bytes_eq}
+use Rattle.lines.specs.Words.{decimal_of, words_in, reserved_text}
 use Rattle.bench_lines.specs.declared.Command.{Command}
-use Rattle.bench_lines.specs.declared.Command.TheVariants.{Free, Reserved, Boot, Sort, Count, At, Give, Lists, Bad}
+use Rattle.bench_lines.specs.declared.Command.TheVariants.{Free, Reserved, Boot, Sort, Count, At, Give, Lists}
 
 -- "("
 abbrev pub opening_text : List ℕ
@@ -43,50 +42,50 @@ abbrev pub list_text : List ℕ
 list_text = 108 ∷ 105 ∷ 115 ∷ 116 ∷ []
 
 -- "`(boot)`, `(sort)`", "`(list)`"
-unfoldable pub alone : List ℕ → Command
+unfoldable pub alone : List ℕ → Option Command
 alone name =
-    cond (same_text name boot_text) Boot
-    (cond (same_text name sort_text) Sort
-    (cond (same_text name list_text) Lists Bad))
+    cond (bytes_eq name boot_text) (Some Boot)
+    (cond (bytes_eq name sort_text) (Some Sort)
+    (cond (bytes_eq name list_text) (Some Lists) None))
 
 -- "`(count N)`"
-unfoldable pub one_number : List ℕ → ℕ → Command
-one_number name n = cond (same_text name count_text) (Count n) Bad
+unfoldable pub one_number : List ℕ → ℕ → Option Command
+one_number name n = cond (bytes_eq name count_text) (Some (Count n)) None
 
 -- "`(free S E)`, `(reserved S E)`", "`(at S N)`, `(give S E)`"
-unfoldable pub two_numbers : List ℕ → ℕ → ℕ → Command
+unfoldable pub two_numbers : List ℕ → ℕ → ℕ → Option Command
 two_numbers name a b =
-    cond (same_text name free_text) (Free a b)
-    (cond (same_text name reserved_text) (Reserved a b)
-    (cond (same_text name at_text) (At a b)
-    (cond (same_text name give_text) (Give a b) Bad)))
+    cond (bytes_eq name free_text) (Some (Free a b))
+    (cond (bytes_eq name reserved_text) (Some (Reserved a b))
+    (cond (bytes_eq name at_text) (Some (At a b))
+    (cond (bytes_eq name give_text) (Some (Give a b)) None)))
 
-unfoldable pub with_one : List ℕ → Word → Command
-with_one name (Number n) = one_number name n
-with_one name Nothing = Bad
+unfoldable pub with_one : List ℕ → Option ℕ → Option Command
+with_one name (Some n) = one_number name n
+with_one name None = None
 
-unfoldable pub with_two : List ℕ → Word → Word → Command
-with_two name (Number a) (Number b) = two_numbers name a b
-with_two name (Number a) Nothing = Bad
-with_two name Nothing second = Bad
+unfoldable pub with_two : List ℕ → Option ℕ → Option ℕ → Option Command
+with_two name (Some a) (Some b) = two_numbers name a b
+with_two name (Some a) None = None
+with_two name None second = None
 
 -- a name, and the numbers that its command has: "Numbers are decimal digits below 2^64, parted by one space."
-unfoldable pub command_in : List (List ℕ) → Command
-command_in [] = Bad
+unfoldable pub command_in : List (List ℕ) → Option Command
+command_in [] = None
 command_in (name ∷ []) = alone name
 command_in (name ∷ a ∷ []) = with_one name (decimal_of a)
 command_in (name ∷ a ∷ b ∷ []) = with_two name (decimal_of a) (decimal_of b)
-command_in (name ∷ a ∷ b ∷ c ∷ words) = Bad
+command_in (name ∷ a ∷ b ∷ c ∷ words) = None
 
 -- "bracket forms, one a line": the first byte opens the form, and the last one, another byte, closes it
 unfoldable pub is_form : List ℕ → Bool
 is_form line =
-    leb 2 (length line) && (same_text (take 1 line) opening_text && same_text (drop (length line - 1) line) closing_text)
+    leb 2 (length line) && (bytes_eq (take 1 line) opening_text && bytes_eq (drop (length line - 1) line) closing_text)
 
 -- what stands between the brackets
 abbrev pub inside : List ℕ → List ℕ
 inside line = take ((length line - 1) - 1) (drop 1 line)
 
--- "anything else, or a line above 128 bytes, prints `(bad)`"
-unfoldable pub command_of : List ℕ → Command
-command_of line = cond (ltb 128 (length line)) Bad (cond (is_form line) (command_in (words_in (inside line))) Bad)
+-- the command of a line, and none of any other: "anything else, or a line above 128 bytes, prints `(bad)`"
+unfoldable pub command_of : List ℕ → Option Command
+command_of line = cond (ltb 128 (length line)) None (cond (is_form line) (command_in (words_in (inside line))) None)

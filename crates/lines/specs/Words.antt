@@ -1,55 +1,42 @@
 -- The words of a line, the numbers that they stand for, and where these go. A text is a list of bytes.
-use Rattle.std.specs.Prelude.{ℕ, ◌+◌, ◌-◌, ◌*◌, ◌^◌, ◌%◌, Bool, true, false, cond, ◌&&◌, List, [], ◌∷◌, length, set, leb, ltb, eqb}
-use Rattle.lines.specs.declared.Word.{Word}
-use Rattle.lines.specs.declared.Word.TheVariants.{Number, Nothing}
+use Rattle.std.specs.Prelude.{ℕ, ◌+◌, ◌-◌, ◌*◌, ◌^◌, ◌%◌, Bool, true, false, cond, ◌&&◌, List, [], ◌∷◌, Option, Some, None, length, set, leb, ltb, eqb, ◌==◌}
+use Rattle.std.specs.List.{slice_split}
+use Rattle.std.specs.Str.{bytes_eq}
 use Rattle.lines.specs.declared.Reading.{Reading}
 use Rattle.lines.specs.declared.Layout.{Layout}
 use Rattle.lines.specs.declared.Layout.TheVariants.{Numbers, Areas}
 
 -- the number, where it is below 2^64
-unfoldable pub number : ℕ → Word
-number n = cond (ltb n (2 ^ 64)) (Number n) Nothing
+unfoldable pub number : ℕ → Option ℕ
+number n = cond (ltb n (2 ^ 64)) (Some n) None
 
 -- the number with one more decimal digit, where the byte is one: 48 is "0" and 57 is "9"
-unfoldable pub with_digit : ℕ → ℕ → Word
-with_digit n b = cond (leb 48 b && leb b 57) (number (n * 10 + (b - 48))) Nothing
+unfoldable pub with_digit : ℕ → ℕ → Option ℕ
+with_digit n b = cond (leb 48 b && leb b 57) (number (n * 10 + (b - 48))) None
 
 -- once a byte is no digit, or the number is too large, the text is no number
-unfoldable pub with_byte : Word → ℕ → Word
-with_byte (Number n) b = with_digit n b
-with_byte Nothing b = Nothing
+unfoldable pub with_byte : Option ℕ → ℕ → Option ℕ
+with_byte (Some n) b = with_digit n b
+with_byte None b = None
 
 -- byte by byte, from the left
-unfoldable pub with_bytes : Word → List ℕ → Word
+unfoldable pub with_bytes : Option ℕ → List ℕ → Option ℕ
 with_bytes w [] = w
 with_bytes w (b ∷ bs) = with_bytes (with_byte w b) bs
 
 -- the number that the text is in decimal; an empty one is none
-unfoldable pub decimal_of : List ℕ → Word
-decimal_of [] = Nothing
-decimal_of (b ∷ bs) = with_bytes (Number 0) (b ∷ bs)
-
--- the words, the byte in front of the first
-unfoldable pub in_front : ℕ → List (List ℕ) → List (List ℕ)
-in_front b [] = []
-in_front b (w ∷ ws) = (b ∷ w) ∷ ws
+unfoldable pub decimal_of : List ℕ → Option ℕ
+decimal_of [] = None
+decimal_of (b ∷ bs) = with_bytes (Some 0) (b ∷ bs)
 
 -- the words of a text, parted by one space each, which is 32: a text with no space is one word, which may be empty
-unfoldable pub words_in : List ℕ → List (List ℕ)
-words_in [] = [] ∷ []
-words_in (b ∷ bs) = cond (eqb b 32) ([] ∷ words_in bs) (in_front b (words_in bs))
+abbrev pub words_in : List ℕ → List (List ℕ)
+words_in t = slice_split (λ b. b == 32) t
 
 -- the words of what follows a name: none, or a space and the words
 unfoldable pub words_after : List ℕ → List (List ℕ)
 words_after [] = []
 words_after (space ∷ bs) = words_in bs
-
--- whether two texts are the same, byte by byte
-unfoldable pub same_text : List ℕ → List ℕ → Bool
-same_text [] [] = true
-same_text [] (c ∷ cs) = false
-same_text (b ∷ bs) [] = false
-same_text (b ∷ bs) (c ∷ cs) = eqb b c && same_text bs cs
 
 -- "general"
 abbrev pub general_text : List ℕ
@@ -60,15 +47,15 @@ abbrev pub reserved_text : List ℕ
 reserved_text = 114 ∷ 101 ∷ 115 ∷ 101 ∷ 114 ∷ 118 ∷ 101 ∷ 100 ∷ []
 
 -- the number that stands for a kind
-unfoldable pub kind_number : List ℕ → Word
-kind_number t = cond (same_text t general_text) (Number 0) (cond (same_text t reserved_text) (Number 1) Nothing)
+unfoldable pub kind_number : List ℕ → Option ℕ
+kind_number t = cond (bytes_eq t general_text) (Some 0) (cond (bytes_eq t reserved_text) (Some 1) None)
 
 -- an area is two numbers and a kind
-unfoldable pub word_of_area : ℕ → List ℕ → Word
+unfoldable pub word_of_area : ℕ → List ℕ → Option ℕ
 word_of_area place t = cond (eqb place 2) (kind_number t) (decimal_of t)
 
 -- what a reading takes the next text for
-unfoldable pub next_word : Layout → Reading → List ℕ → Word
+unfoldable pub next_word : Layout → Reading → List ℕ → Option ℕ
 next_word Numbers r t = decimal_of t
 next_word Areas r t = word_of_area (r.len % 3) t
 
@@ -95,9 +82,9 @@ invalid r = record { len = r.len; valid = false }
 unfoldable pub put_number : ℕ → Reading → List ℕ → Filled
 put_number n r ws = cond (ltb r.len (length ws)) (filled (record { len = r.len + 1; valid = r.valid }) (set ws r.len n)) (filled (invalid r) ws)
 
-unfoldable pub put_word : Word → Reading → List ℕ → Filled
-put_word (Number n) r ws = put_number n r ws
-put_word Nothing r ws = filled (invalid r) ws
+unfoldable pub put_word : Option ℕ → Reading → List ℕ → Filled
+put_word (Some n) r ws = put_number n r ws
+put_word None r ws = filled (invalid r) ws
 
 -- the word of each text, in turn
 unfoldable pub put_all : Layout → List (List ℕ) → Filled → Filled

@@ -13,34 +13,50 @@ pub enum Layout {
     Areas,
 }
 
-// What a word of the line stands for.
-#[derive(Clone, Copy)]
-pub enum Word {
-    Number(u64),
-    Nothing,
-}
-
-// How many numbers were read, and whether each word stood for one and had room.
+// How many numbers were read, and whether each word stood for one and had room. Both at once, and no `Option` of the count: the numbers
+// after a word that stands for none are read too.
 #[derive(Clone, Copy)]
 pub struct Reading {
     pub len: usize,
     pub valid: bool,
 }
 
-pub fn nothing_read() -> Reading
-    ensures { result ≡ words.nothing_read }
-{
-    Reading {
-        len: 0,
-        valid: true,
+impl Reading {
+    pub fn nothing() -> Reading
+        ensures { result ≡ words.nothing_read }
+    {
+        Reading {
+            len: 0,
+            valid: true,
+        }
     }
-}
 
-// Whether the words were areas, the last of them whole.
-pub fn are_areas(r: Reading) -> bool
-    ensures { result ≡ words.are_areas r }
-{
-    r.valid && r.len % 3 == 0
+    // Whether the words were areas, the last of them whole.
+    pub fn are_areas(self) -> bool
+        ensures { result ≡ words.are_areas self }
+    {
+        self.valid && self.len % 3 == 0
+    }
+
+    // Puts the next number in its place.
+    #[tactic(auto, unfolding(crate::specs::Words::put_word, crate::specs::Words::put_number))]
+    pub fn put(self, word: Option<u64>, numbers: &mut [u64]) -> Reading
+        ensures { words.filled result numbers.new ≡ words.put_word word self numbers.old }
+    {
+        match word {
+            Some(n) if self.len < numbers.len() => {
+                numbers[self.len] = n;
+                Reading {
+                    len: self.len + 1,
+                    valid: self.valid,
+                }
+            }
+            _ => Reading {
+                len: self.len,
+                valid: false,
+            },
+        }
+    }
 }
 
 // Where the first such byte stands from the place `from` on and below `to`; `to` where there is none.
@@ -63,119 +79,60 @@ pub fn read_words(line: &[u8], name_end: usize, layout: Layout, numbers: &mut [u
     ensures numbers_after { words.filled result numbers.new ≡ words.read_after layout (drop name_end line.now) numbers.old }
     ensures len_in_bounds { result.len ≤ length numbers.new }
 {
-    let mut read = nothing_read();
-    let mut at = name_end;
-    while at < line.len() {
-        // Past the space.
-        let start = at + 1;
-        at = find(line, start, line.len(), b' ');
-        read = put(read, next_word(layout, read, &line[start..at]), numbers);
+    let mut read = Reading::nothing();
+    if line.len() <= name_end {
+        return read;
+    }
+    // Past the space.
+    for word in line[name_end + 1..].split(|b| *b == b' ') {
+        read = read.put(next_word(layout, read, word), numbers);
     }
     read
 }
 
 // The third word of an area is its kind.
-fn next_word(layout: Layout, r: Reading, text: &[u8]) -> Word
+#[tactic(auto, unfolding(crate::specs::Words::next_word, crate::specs::Words::word_of_area))]
+fn next_word(layout: Layout, r: Reading, text: &[u8]) -> Option<u64>
     ensures { result ≡ words.next_word layout r text.now }
 {
     match layout {
-        Layout::Numbers => decimal(text),
-        Layout::Areas => word_of_area(r.len % 3, text),
+        Layout::Areas if r.len % 3 == 2 => kind(text),
+        _ => decimal(text),
     }
-}
-
-fn word_of_area(place: usize, text: &[u8]) -> Word
-    ensures { result ≡ words.word_of_area place text.now }
-{
-    if place == 2 {
-        return kind(text);
-    }
-    decimal(text)
 }
 
 // 0 for `general` and 1 for `reserved`, as boot takes them.
-fn kind(text: &[u8]) -> Word
+#[tactic(auto, unfolding(crate::specs::Words::kind_number))]
+fn kind(text: &[u8]) -> Option<u64>
     ensures { result ≡ words.kind_number text.now }
 {
-    if check::same(text, b"general") {
-        return Word::Number(0);
-    }
-    if check::same(text, b"reserved") {
-        return Word::Number(1);
-    }
-    Word::Nothing
-}
-
-// Puts the next number in its place.
-pub fn put(r: Reading, word: Word, numbers: &mut [u64]) -> Reading
-    ensures { words.filled result numbers.new ≡ words.put_word word r numbers.old }
-{
-    match word {
-        Word::Number(n) => put_number(r, n, numbers),
-        Word::Nothing => invalid(r),
+    match text {
+        b"general" => Some(0),
+        b"reserved" => Some(1),
+        _ => None,
     }
 }
 
-fn put_number(r: Reading, n: u64, numbers: &mut [u64]) -> Reading
-    ensures { words.filled result numbers.new ≡ words.put_number n r numbers.old }
-{
-    let len = r.len;
-    if len < numbers.len() {
-        numbers[len] = n;
-        return Reading {
-            len: len + 1,
-            valid: r.valid,
-        };
-    }
-    invalid(r)
-}
-
-fn invalid(r: Reading) -> Reading
-    ensures { result ≡ words.invalid r }
-{
-    Reading {
-        len: r.len,
-        valid: false,
-    }
-}
-
-pub fn decimal(word: &[u8]) -> Word
+#[tactic(auto, using(crate::proofs::Words::decimal_empty, crate::proofs::Words::decimal_starts, crate::proofs::Words::decimal_turn, crate::proofs::Words::decimal_stops, crate::proofs::Words::decimal_ends))]
+pub fn decimal(word: &[u8]) -> Option<u64>
     ensures { result ≡ words.decimal_of word.now }
 {
-    if word.len() == 0 {
-        return Word::Nothing;
+    if word.is_empty() {
+        return None;
     }
-    let mut read = Word::Number(0);
-    let mut i = 0;
-    while i < word.len() {
-        read = with_byte(read, word[i]);
-        i += 1;
+    let mut n = 0;
+    for &byte in word {
+        n = with_digit(n, byte)?;
     }
-    read
+    Some(n)
 }
 
-fn with_byte(read: Word, byte: u8) -> Word
-    ensures { result ≡ words.with_byte read byte }
-{
-    match read {
-        Word::Number(n) => with_digit(n, byte),
-        Word::Nothing => Word::Nothing,
-    }
-}
-
-#[tactic(auto, using(crate::proofs::Words::below_digits, crate::proofs::Words::above_digits, crate::proofs::Words::too_large, crate::proofs::Words::one_more))]
-fn with_digit(n: u64, byte: u8) -> Word
+#[tactic(auto, using(crate::proofs::Words::not_a_digit, crate::proofs::Words::too_large, crate::proofs::Words::one_more))]
+fn with_digit(n: u64, byte: u8) -> Option<u64>
     ensures { result ≡ words.with_digit n byte }
 {
-    if byte < b'0' {
-        return Word::Nothing;
-    }
-    if b'9' < byte {
-        return Word::Nothing;
-    }
-    let digit = (byte - b'0') as u64;
-    if (u64::MAX - digit) / 10 < n {
-        return Word::Nothing;
-    }
-    Word::Number(n * 10 + digit)
+    let b'0'..=b'9' = byte else {
+        return None;
+    };
+    n.checked_mul(10)?.checked_add(u64::from(byte - b'0'))
 }

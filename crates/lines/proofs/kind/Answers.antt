@@ -1,21 +1,17 @@
--- `kind` by the two texts.
-use mathlib.Core.Path.{◌∙◌}
-use Rattle.lines.specs.Words.{general_text, reserved_text}
-use Rattle.lines.proofs.Words.{same_told, kind_general, kind_reserved, kind_neither}
+-- `kind`: the bytes of an arm make its text.
+use Rattle.std.proofs.Common.{◌≡◌, rules, arith}
+use Rattle.std.proofs.lemmas.Slice.Eq.{text_from_reads}
+use Rattle.lines.specs.Words.{general_text, reserved_text, kind_number}
 use Rattle.lines.proofs.kind.Goals as goal
 
-pub returns-then-same : goal.returns-then-same
-returns-then-same c = let t = c.args.text.now in
-    kind_general t (same_told _ t general_text c.same.ensures ∙ c.if-same.true)
+pub returns-in-general : goal.returns-in-general
+unfolding kind_number
+returns-in-general c =
+    let is : c.args.text.now ≡ general_text = text_from_reads _ general_text (omega arith) (search rules) in
+    rw is
 
-pub returns-then-same-2 : goal.returns-then-same-2
-returns-then-same-2 c = let t = c.args.text.now in
-    kind_reserved t
-    (same_told _ t general_text c.same.ensures ∙ c.if-same.false)
-    (same_told _ t reserved_text c.same-2.ensures ∙ c.if-same-2.true)
-
-pub returns : goal.returns
-returns c = let t = c.args.text.now in
-    kind_neither t
-    (same_told _ t general_text c.same.ensures ∙ c.if-same.false)
-    (same_told _ t reserved_text c.same-2.ensures ∙ c.if-same-2.false)
+pub returns-in-reserved : goal.returns-in-reserved
+unfolding kind_number
+returns-in-reserved c =
+    let is : c.args.text.now ≡ reserved_text = text_from_reads _ reserved_text (omega arith) (search rules) in
+    rw is

@@ -1,11 +1,10 @@
--- `read_words`: at each turn the words after `at` are still to be put.
-use Rattle.std.proofs.Common.{◌≡◌, ◌≤◌, ◌-◌, length, drop}
-use Rattle.lines.specs.Words.{filled, put_all, words_after, read_after}
+-- `read_words`: the words so far are put.
+use Rattle.std.proofs.Common.{◌≡◌, ◌≤◌, length, map}
+use Rattle.lines.specs.Words.{filled, nothing_read, put_all}
 use Rattle.lines.proofs.read_words.Given as goal
 
-abbrev pub invariant-loop-at : goal.invariant-loop-at
-invariant-loop-at l =
-    (l.read.len ≤ length l.numbers) × (read_after l.layout (drop l.name_end l.line) l.fn.numbers ≡ put_all l.layout (words_after (drop l.at l.line)) (filled l.read l.numbers))
-
-abbrev pub decreases-loop-at : goal.decreases-loop-at
-decreases-loop-at l = length l.line - l.at
+abbrev pub invariant-loop-word : goal.invariant-loop-word
+invariant-loop-word l = record {
+  in_place : l.read.len ≤ length l.numbers;
+  so_far : filled l.read l.numbers ≡ put_all l.layout (map (λ x. x.now) l.yielded) (filled nothing_read l.fn.numbers);
+}
