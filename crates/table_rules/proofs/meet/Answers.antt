@@ -7,16 +7,16 @@ pub loop-i-init : goal.loop-i-init
 loop-i-init c = passed_start _ _ _ _ c.requires.t_value c.requires.u_value
 
 pub loop-i-preserved-then-t-i : goal.loop-i-preserved-then-t-i
-loop-i-preserved-then-t-i c = first_below _ _ _ _ c.requires.t_value c.requires.u_value _ _ c.loop-i.invariant (omega arith) (omega arith) c.if-t-i.true
+loop-i-preserved-then-t-i c = first_below c.loop-i.invariant (omega arith) (omega arith) c.if-t-i.true
 
 pub loop-i-preserved : goal.loop-i-preserved
-loop-i-preserved c = second_below _ _ _ _ c.requires.t_value c.requires.u_value _ _ c.loop-i.invariant (omega arith) (omega arith) c.if-u-j.true
+loop-i-preserved c = second_below c.loop-i.invariant (omega arith) (omega arith) c.if-u-j.true
 
 pub returns-else-u-j : goal.returns-else-u-j
-returns-else-u-j c = pair_meets _ _ _ _ c.requires.t_value c.requires.u_value _ _ c.loop-i.invariant (omega arith) (omega arith) c.if-t-i.false c.if-u-j.false
+returns-else-u-j c = pair_meets c.loop-i.invariant (omega arith) (omega arith) c.if-t-i.false c.if-u-j.false
 
 pub returns-else-j-u_len : goal.returns-else-j-u_len
-returns-else-j-u_len c = second_ends _ _ _ _ c.requires.t_value c.requires.u_value _ _ c.loop-i.invariant c.if-j-u_len.false
+returns-else-j-u_len c = second_ends c.loop-i.invariant c.if-j-u_len.false
 
 pub returns-after-loop-i : goal.returns-after-loop-i
-returns-after-loop-i c = first_ends _ _ _ _ c.requires.t_value c.requires.u_value _ _ c.loop-i.invariant c.loop-i-test.false
+returns-after-loop-i c = first_ends c.loop-i.invariant c.loop-i-test.false
