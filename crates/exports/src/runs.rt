@@ -27,17 +27,18 @@ pub extern "C" fn likhmout_run(
 {
     let ran = run::run(*a, words, calls, areas, answers, held);
     *a = ran.allocator;
-    count(ran.ending)
+    RunCounts::from(ran.ending)
 }
 
-fn count(ending: Ending) -> RunCounts
-    ensures { result ≡ counted ending }
-{
-    let made = ending.made;
-    let end = ending.end;
-    match end {
-        RunEnd::Done => RunCounts { made, end: 0 },
-        RunEnd::Damaged => RunCounts { made, end: 1 },
-        RunEnd::NoRoom => RunCounts { made, end: 2 },
+impl From<Ending> for RunCounts {
+    ghost from_gives = { λ ending counts. counts ≡ counted ending };
+
+    fn from(ending: Ending) -> RunCounts {
+        let made = ending.made;
+        match ending.end {
+            RunEnd::Done => RunCounts { made, end: 0 },
+            RunEnd::Damaged => RunCounts { made, end: 1 },
+            RunEnd::NoRoom => RunCounts { made, end: 2 },
+        }
     }
 }

@@ -126,6 +126,9 @@ module _ (n : ℕ) (ws : List ℕ) (i from : ℕ) (a : Past n ws i from) where
 
 -- at region i and chunk j: k runs are in the buffer, with the held frames below the mark
 pub record Walked (m : ℕ) (us : List ℕ) (n : ℕ) (ws base now : List ℕ) (i j from k : ℕ) : Type 0 where
+  pub regions_tidy : tidy true (table_slots m us) ≡ true
+  pub chunks_tidy : tidy true (table_slots n ws) ≡ true
+  pub long : 2048 ≤ length base
   pub regions : Past m us i from
   pub chunks : Past n ws j from
   pub stack : List FrameRange
@@ -152,97 +155,124 @@ put_few s e rs = go (leb e s) rs
     go false [] = omega arith
     go false (r ∷ rs) = join (eqb (r.end + 1) s) r rs
 
-module _ (m : ℕ) (us : List ℕ) (n : ℕ) (ws base : List ℕ) (tm : tidy true (table_slots m us) ≡ true) (tn : tidy true (table_slots n ws) ≡ true) (long : 2048 ≤ length base) where
+pub walk_start : (m : ℕ) (us : List ℕ) (n : ℕ) (ws base : List ℕ) → tidy true (table_slots m us) ≡ true → tidy true (table_slots n ws) ≡ true → 2048 ≤ length base → Walked m us n ws base base 0 0 0 0
+unfolding stacked written pairs up
+walk_start m us n ws base tm tn long = record {
+  regions_tidy = tm;
+  chunks_tidy = tn;
+  long = long;
+  regions = past_start m us tm;
+  chunks = past_start n ws tn;
+  stack = [];
+  count = refl;
+  room = omega arith;
+  upto = upto_none (is_held (two_tables (table_slots m us) (table_slots n ws)));
+  words = refl;
+}
+
+module _ {m : ℕ} {us : List ℕ} {n : ℕ} {ws base now : List ℕ} {i j from k : ℕ} (w : Walked m us n ws base now i j from k) where
   abbrev l : Lists
   l = two_tables (table_slots m us) (table_slots n ws)
 
-  pub walk_start : Walked m us n ws base base 0 0 0 0
-  unfolding stacked written pairs up
-  walk_start = record { regions = past_start m us tm; chunks = past_start n ws tn; stack = []; count = refl; room = omega arith; upto = upto_none (is_held l); words = refl }
+  -- no region is left
+  pub walk_ends : m ≤ i → HeldWritten l k base now
+  unfolding stacked
+  walk_ends h = record {
+    list = up w.stack;
+    number = w.count ∙ sym (length_up w.stack);
+    held = upto_held l from w.stack w.upto (λ f g. held_outside (table_slots m us) (table_slots n ws) f (past_none m us i from w.regions h f g));
+    words = w.words;
+  }
 
-  module _ (now : List ℕ) (i j from k : ℕ) (w : Walked m us n ws base now i j from k) where
-    -- no region is left
-    pub walk_ends : m ≤ i → HeldWritten l k base now
-    unfolding stacked
-    walk_ends h = record {
-      list = up w.stack;
-      number = w.count ∙ sym (length_up w.stack);
-      held = upto_held l from w.stack w.upto (λ f g. held_outside (table_slots m us) (table_slots n ws) f (past_none m us i from w.regions h f g));
-      words = w.words;
+  few : 2 * k ≤ 2048
+  few = omega (arith, w.room, w.regions.few, w.chunks.few, tidy_few m us w.regions_tidy, tidy_few n ws w.chunks_tidy)
+
+  pub walk_length : length now ≡ length base
+  walk_length = ap length w.words ∙ stacked_length base w.stack (omega (arith, few, w.count))
+
+  pub walk_room : i < m → 2 * k + 2 ≤ length base
+  walk_room h = omega (arith, w.room, w.chunks.few, tidy_few m us w.regions_tidy, tidy_few n ws w.chunks_tidy)
+
+  module _ (h : i < m) where
+    abbrev r : FrameRange
+    r = pair_at us i
+
+    abbrev first : ℕ
+    first = max from r.start
+
+    -- the next chunk begins in or below the region, or above it
+    pub chunk_there : (x : ℕ) → x ≡ next_start n ws j → x ≤ r.end → (j < n) × (x ≡ (pair_at ws j).start)
+    chunk_there x e g =
+        let c = is_chunk n ws j (omega (arith, e, g, (tidy_pair m us w.regions_tidy i h).low)) in
+        (c.0, e ∙ c.1)
+
+    pub chunk_above : (x : ℕ) → x ≡ next_start n ws j → r.end < x → j < n → r.end < (pair_at ws j).start
+    chunk_above x e g o = omega (arith, e, g, a_chunk n ws j o)
+
+    -- the frames from `first` up to e, not included, are put in, and all below q are done with
+    put : (e q i' j' : ℕ) → Past m us i' q → Past n ws j' q → i + j + 1 ≤ i' + j' → Upto (is_held l) q (put_run first e w.stack) → (k' : ℕ) (now' : List ℕ) →
+        k' ≡ put_count k first e now → now' ≡ put_words k first e now → Walked m us n ws base now' i' j' q k'
+    put e q i' j' a b o u k' now' x y = record {
+      regions_tidy = w.regions_tidy;
+      chunks_tidy = w.chunks_tidy;
+      long = w.long;
+      regions = a;
+      chunks = b;
+      stack = put_run first e w.stack;
+      count = counted;
+      room = omega (arith, counted, put_few first e w.stack, w.room, w.count);
+      upto = u;
+      words = y ∙ (λ t. put_words (w.count t) first e (w.words t)) ∙ put_words_holds base first e w.stack (omega (arith, walk_room h, w.count));
     }
+      where
+        counted : k' ≡ length (put_run first e w.stack)
+        counted = x ∙ (λ t. put_count (w.count t) first e (w.words t)) ∙ put_count_holds base first e w.stack
 
-    few : 2 * k ≤ 2048
-    few = omega (arith, w.room, w.regions.few, w.chunks.few, tidy_few m us tm, tidy_few n ws tn)
+    -- no chunk begins in what is left of the region
+    region_turn : (j < n → r.end < (pair_at ws j).start) → (k' : ℕ) (now' : List ℕ) → k' ≡ put_count k first (r.end + 1) now → now' ≡ put_words k first (r.end + 1) now →
+        Walked m us n ws base now' (i + 1) j (max from (r.end + 1)) k'
+    region_turn c k' now' x y =
+        put (r.end + 1) q (i + 1) j (past_next m us i from w.regions h) (past_higher n ws j from w.chunks q (omega arith)) (omega arith)
+        (upto_put (is_held l) from q first (r.end + 1) w.stack w.upto (omega arith) (omega arith) (omega arith)
+        (λ f g t. held_yes _ _ f (in_pair m us i from w.regions h f (omega arith) (omega arith) (omega arith)) (free f (omega arith) (omega arith)))
+        (λ f g t v. held_outside _ _ f (under_pair m us i from w.regions h f g (omega arith)))
+        (λ f g t v. absurd (omega arith)))
+        k' now' x y
+      where
+        q : ℕ
+        q = max from (r.end + 1)
 
-    pub walk_length : length now ≡ length base
-    walk_length = ap length w.words ∙ stacked_length base w.stack (omega (arith, few, w.count))
+        free : (f : ℕ) → from ≤ f → f ≤ r.end → tally f (table_slots n ws) ≡ 0
+        free f g t = go (ltb j n) refl
+          where
+            go : (b : Bool) → ltb j n ≡ b → tally f (table_slots n ws) ≡ 0
+            go true e = under_pair n ws j from w.chunks (ltb-true j n e) f g (omega (arith, c (ltb-true j n e)))
+            go false e = past_none n ws j from w.chunks (ltb-false j n e) f g
 
-    pub walk_room : i < m → 2 * k + 2 ≤ length base
-    walk_room h = omega (arith, w.room, w.chunks.few, tidy_few m us tm, tidy_few n ws tn)
+    -- the next chunk begins in or below it
+    chunk_turn : (g : j < n) → (pair_at ws j).start ≤ r.end → (k' : ℕ) (now' : List ℕ) → k' ≡ put_count k first (pair_at ws j).start now → now' ≡ put_words k first (pair_at ws j).start now →
+        Walked m us n ws base now' i (j + 1) (max from ((pair_at ws j).end + 1)) k'
+    chunk_turn o c k' now' x y =
+        put (pair_at ws j).start q i (j + 1) (past_higher m us i from w.regions q (omega arith)) (past_next n ws j from w.chunks o) (omega arith)
+        (upto_put (is_held l) from q first (pair_at ws j).start w.stack w.upto (omega arith) (omega arith) (omega (arith, filled n ws j from w.chunks o))
+        (λ f g t. held_yes _ _ f (in_pair m us i from w.regions h f (omega arith) (omega arith) (omega arith)) (under_pair n ws j from w.chunks o f (omega arith) t))
+        (λ f g t v. held_outside _ _ f (under_pair m us i from w.regions h f g (omega arith)))
+        (λ f g t v. held_free _ _ f (in_pair n ws j from w.chunks o f g v (omega arith))))
+        k' now' x y
+      where
+        q : ℕ
+        q = max from ((pair_at ws j).end + 1)
 
-    module _ (h : i < m) where
-      abbrev r : FrameRange
-      r = pair_at us i
+    -- as the code has it: where the next chunk begins, the first frame put in and the new mark are numbers that it computed
+    pub chunk_done : {x f q k' : ℕ} {now' : List ℕ} → x ≡ next_start n ws j → x ≤ r.end → f ≡ first → q ≡ max from ((pair_at ws j).end + 1) →
+        (k' ≡ put_count k f x now) × (now' ≡ put_words k f x now) → Walked m us n ws base now' i (j + 1) q k'
+    chunk_done {x} {f} {q} {k'} {now'} e g p t u =
+        let c = chunk_there x e g in
+        subst (λ (q : ℕ). Walked m us n ws base now' i (j + 1) q k') (sym t)
+        (chunk_turn c.0 (omega (arith, c.1, g)) k' now' (u.0 ∙ (λ v. put_count k (p v) (c.1 v) now)) (u.1 ∙ (λ v. put_words k (p v) (c.1 v) now)))
 
-      abbrev first : ℕ
-      first = max from r.start
-
-      -- the next chunk begins in or below the region, or above it
-      pub chunk_there : (x : ℕ) → x ≡ next_start n ws j → x ≤ r.end → (j < n) × (x ≡ (pair_at ws j).start)
-      chunk_there x e g =
-          let c = is_chunk n ws j (omega (arith, e, g, (tidy_pair m us tm i h).low)) in
-          (c.0, e ∙ c.1)
-
-      pub chunk_above : (x : ℕ) → x ≡ next_start n ws j → r.end < x → j < n → r.end < (pair_at ws j).start
-      chunk_above x e g o = omega (arith, e, g, a_chunk n ws j o)
-
-      -- the frames from `first` up to e, not included, are put in, and all below q are done with
-      put : (e q i' j' : ℕ) → Past m us i' q → Past n ws j' q → i + j + 1 ≤ i' + j' → Upto (is_held l) q (put_run first e w.stack) → (k' : ℕ) (now' : List ℕ) →
-          k' ≡ put_count k first e now → now' ≡ put_words k first e now → Walked m us n ws base now' i' j' q k'
-      put e q i' j' a b o u k' now' x y = record {
-        regions = a;
-        chunks = b;
-        stack = put_run first e w.stack;
-        count = counted;
-        room = omega (arith, counted, put_few first e w.stack, w.room, w.count);
-        upto = u;
-        words = y ∙ (λ t. put_words (w.count t) first e (w.words t)) ∙ put_words_holds base first e w.stack (omega (arith, walk_room h, w.count));
-      }
-        where
-          counted : k' ≡ length (put_run first e w.stack)
-          counted = x ∙ (λ t. put_count (w.count t) first e (w.words t)) ∙ put_count_holds base first e w.stack
-
-      -- no chunk begins in what is left of the region
-      pub region_done : (j < n → r.end < (pair_at ws j).start) → (k' : ℕ) (now' : List ℕ) → k' ≡ put_count k first (r.end + 1) now → now' ≡ put_words k first (r.end + 1) now →
-          Walked m us n ws base now' (i + 1) j (max from (r.end + 1)) k'
-      region_done c k' now' x y =
-          put (r.end + 1) q (i + 1) j (past_next m us i from w.regions h) (past_higher n ws j from w.chunks q (omega arith)) (omega arith)
-          (upto_put (is_held l) from q first (r.end + 1) w.stack w.upto (omega arith) (omega arith) (omega arith)
-          (λ f g t. held_yes _ _ f (in_pair m us i from w.regions h f (omega arith) (omega arith) (omega arith)) (free f (omega arith) (omega arith)))
-          (λ f g t v. held_outside _ _ f (under_pair m us i from w.regions h f g (omega arith)))
-          (λ f g t v. absurd (omega arith)))
-          k' now' x y
-        where
-          q : ℕ
-          q = max from (r.end + 1)
-
-          free : (f : ℕ) → from ≤ f → f ≤ r.end → tally f (table_slots n ws) ≡ 0
-          free f g t = go (ltb j n) refl
-            where
-              go : (b : Bool) → ltb j n ≡ b → tally f (table_slots n ws) ≡ 0
-              go true e = under_pair n ws j from w.chunks (ltb-true j n e) f g (omega (arith, c (ltb-true j n e)))
-              go false e = past_none n ws j from w.chunks (ltb-false j n e) f g
-
-      -- the next chunk begins in or below it
-      pub chunk_done : (g : j < n) → (pair_at ws j).start ≤ r.end → (k' : ℕ) (now' : List ℕ) → k' ≡ put_count k first (pair_at ws j).start now → now' ≡ put_words k first (pair_at ws j).start now →
-          Walked m us n ws base now' i (j + 1) (max from ((pair_at ws j).end + 1)) k'
-      chunk_done o c k' now' x y =
-          put (pair_at ws j).start q i (j + 1) (past_higher m us i from w.regions q (omega arith)) (past_next n ws j from w.chunks o) (omega arith)
-          (upto_put (is_held l) from q first (pair_at ws j).start w.stack w.upto (omega arith) (omega arith) (omega (arith, filled n ws j from w.chunks o))
-          (λ f g t. held_yes _ _ f (in_pair m us i from w.regions h f (omega arith) (omega arith) (omega arith)) (under_pair n ws j from w.chunks o f (omega arith) t))
-          (λ f g t v. held_outside _ _ f (under_pair m us i from w.regions h f g (omega arith)))
-          (λ f g t v. held_free _ _ f (in_pair n ws j from w.chunks o f g v (omega arith))))
-          k' now' x y
-        where
-          q : ℕ
-          q = max from ((pair_at ws j).end + 1)
+    pub region_done : {x f q k' : ℕ} {now' : List ℕ} → x ≡ next_start n ws j → r.end < x → f ≡ first → q ≡ max from (r.end + 1) →
+        (k' ≡ put_count k f (r.end + 1) now) × (now' ≡ put_words k f (r.end + 1) now) → Walked m us n ws base now' (i + 1) j q k'
+    region_done {x} {f} {q} {k'} {now'} e g p t u =
+        subst (λ (q : ℕ). Walked m us n ws base now' (i + 1) j q k') (sym t)
+        (region_turn (chunk_above x e g) k' now' (u.0 ∙ (λ v. put_count k (p v) (r.end + 1) now)) (u.1 ∙ (λ v. put_words k (p v) (r.end + 1) now)))

@@ -7,7 +7,8 @@ ghost use Rattle.model.specs.Store.{table_slots};
 ghost use Rattle.model.specs.Queries.{HeldWritten};
 ghost use Rattle.held.specs.Runs.{two_tables, next_start, touches, put_count, put_words};
 
-use memory_structs::{FrameRange, highest};
+use memory_structs::FrameRange;
+use std::ops::Range;
 
 // The runs go to the beginning of the buffer, ascending. One walk over both tables: at each turn a region or a free chunk is done with.
 pub fn write_runs(
@@ -26,18 +27,19 @@ pub fn write_runs(
     let mut i = 0;
     let mut j = 0;
     // The held frames below `from` are in the buffer; the regions before i and the chunks before j end below it.
-    let mut from = 0;
+    let mut from: u64 = 0;
+    // Each turn moves one of two indices, so neither is a `for`'s.
     while i < regions_len {
-        let first = highest(from, regions[2 * i]);
+        let first = from.max(regions[2 * i]);
         let last = regions[2 * i + 1];
         let chunk = next_start(chunks, chunks_len, j);
         if chunk <= last {
-            runs = put_frames(buffer, runs, first, chunk);
-            from = highest(from, chunks[2 * j + 1] + 1);
+            runs = put_frames(buffer, runs, first..chunk);
+            from = from.max(chunks[2 * j + 1] + 1);
             j += 1;
         } else {
-            runs = put_frames(buffer, runs, first, last + 1);
-            from = highest(from, last + 1);
+            runs = put_frames(buffer, runs, first..last + 1);
+            from = from.max(last + 1);
             i += 1;
         }
     }
@@ -45,6 +47,7 @@ pub fn write_runs(
 }
 
 // The first frame of the chunk at j; a frame above the top where there is none.
+#[tactic(auto, unfolding(crate::specs::Runs::next_start))]
 fn next_start(chunks: &[u64], chunks_len: usize, j: usize) -> u64
     requires { 2 * chunks_len ≤ length chunks.now }
     ensures { result ≡ next_start chunks_len chunks.now j }
@@ -55,33 +58,29 @@ fn next_start(chunks: &[u64], chunks_len: usize, j: usize) -> u64
     FrameRange::TOP + 1
 }
 
-// The frames from `from` up to `to`, not included, are held: they join the last run where they touch it, else they are a run.
-fn put_frames(buffer: &mut [u64], runs: usize, from: u64, to: u64) -> usize
+// The frames are held: they join the last run where they touch it, else they are a run.
+#[tactic(auto, unfolding(crate::specs::Runs::put_count, crate::specs::Runs::put_words, crate::specs::Runs::touches))]
+fn put_frames(buffer: &mut [u64], runs: usize, frames: Range<u64>) -> usize
     requires { 2 * runs + 2 ≤ length buffer.old }
-    ensures { (result ≡ put_count runs from to buffer.old) × (buffer.new ≡ put_words runs from to buffer.old) }
+    ensures { (result ≡ put_count runs frames.start frames.end buffer.old) × (buffer.new ≡ put_words runs frames.start frames.end buffer.old) }
 {
-    if to <= from {
+    if frames.is_empty() {
         return runs;
     }
-    if touches_last(buffer, runs, from) {
-        buffer[2 * runs - 1] = to - 1;
+    if touches_last(buffer, runs, frames.start) {
+        buffer[2 * runs - 1] = frames.end - 1;
         return runs;
     }
-    buffer[2 * runs] = from;
-    buffer[2 * runs + 1] = to - 1;
+    buffer[2 * runs] = frames.start;
+    buffer[2 * runs + 1] = frames.end - 1;
     runs + 1
 }
 
 // Whether the last run ends just below the frame.
+#[tactic(auto, unfolding(crate::specs::Runs::touches))]
 fn touches_last(buffer: &[u64], runs: usize, frame: u64) -> bool
     requires { 2 * runs ≤ length buffer.now }
     ensures { result ≡ touches runs frame buffer.now }
 {
-    if runs == 0 {
-        return false;
-    }
-    if frame == 0 {
-        return false;
-    }
-    buffer[2 * runs - 1] == frame - 1
+    runs != 0 && frame != 0 && buffer[2 * runs - 1] == frame - 1
 }

@@ -1,7 +1,7 @@
 // Answers as words: 1 for yes, 0 for no and for 2, then the value, a range as its start and end. The number is returned.
 #![tactic(auto)]
 
-ghost use Rattle.std.specs.Prelude.{◌≡◌, ℕ, List, ◌∷◌};
+ghost use Rattle.std.specs.Prelude.{◌≡◌, ℕ, List, ◌∷◌, if◌then◌else◌};
 ghost use Rattle.memory_structs.specs.Range.{empty};
 ghost use Rattle.memory_structs.specs.Answers.{shown, no_parts, no_halves};
 ghost use Rattle.range_answers.specs.Words.{Written, unit_words, number_words, range_words, split_words, halves_words};
@@ -20,8 +20,8 @@ pub trait Shows<const N: usize> {
 
     const NONE: Self;
 
-    fn put(self, found: u64, out: &mut [u64; N])
-        ensures { out.new ≡ found ∷ words self };
+    fn put(self, found: bool, out: &mut [u64; N])
+        ensures { out.new ≡ (if found then 1 else 0) ∷ words self };
 }
 
 impl Shows<1> for () {
@@ -31,8 +31,8 @@ impl Shows<1> for () {
 
     const NONE: () = ();
 
-    fn put(self, found: u64, out: &mut [u64; 1]) {
-        *out = [found];
+    fn put(self, found: bool, out: &mut [u64; 1]) {
+        *out = [found as u64];
     }
 }
 
@@ -43,8 +43,8 @@ impl Shows<2> for u64 {
 
     const NONE: u64 = 0;
 
-    fn put(self, found: u64, out: &mut [u64; 2]) {
-        *out = [found, self];
+    fn put(self, found: bool, out: &mut [u64; 2]) {
+        *out = [found as u64, self];
     }
 }
 
@@ -55,8 +55,8 @@ impl Shows<3> for FrameRange {
 
     const NONE: FrameRange = FrameRange::EMPTY;
 
-    fn put(self, found: u64, out: &mut [u64; 3]) {
-        *out = [found, self.start, self.end];
+    fn put(self, found: bool, out: &mut [u64; 3]) {
+        *out = [found as u64, self.start, self.end];
     }
 }
 
@@ -70,9 +70,9 @@ impl Shows<5> for Halves {
         second: FrameRange::EMPTY,
     };
 
-    fn put(self, found: u64, out: &mut [u64; 5]) {
+    fn put(self, found: bool, out: &mut [u64; 5]) {
         *out = [
-            found,
+            found as u64,
             self.first.start,
             self.first.end,
             self.second.start,
@@ -92,9 +92,9 @@ impl Shows<7> for SplitFrames {
         after_end: FrameRange::EMPTY,
     };
 
-    fn put(self, found: u64, out: &mut [u64; 7]) {
+    fn put(self, found: bool, out: &mut [u64; 7]) {
         *out = [
-            found,
+            found as u64,
             self.before_start.start,
             self.before_start.end,
             self.start_to_end.start,
@@ -113,15 +113,15 @@ pub fn put<T: Shows<N>, const N: usize>(
 {
     match answer {
         Err(OutOfBounds) => {
-            T::NONE.put(0, out);
+            T::NONE.put(false, out);
             OUT_OF_BOUNDS
         }
         Ok(None) => {
-            T::NONE.put(0, out);
+            T::NONE.put(false, out);
             0
         }
         Ok(Some(value)) => {
-            value.put(1, out);
+            value.put(true, out);
             0
         }
     }

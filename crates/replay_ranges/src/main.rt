@@ -2,92 +2,118 @@
 // line of standard output is what our call answers. The file `stdout` holds what the Rust answered; oracle/README.md says how it was made.
 #![tactic(auto)]
 
-mod answers;
-mod written;
+ghost use Rattle.std.specs.Prelude.{◌*◌, ◌^◌, ◌<◌};
 
-use lines::{Layout, Reading};
-use memory_structs::FrameRange;
+use memory_structs::{FrameRange, OutOfBounds};
+use range_answers::Shows;
+use std::alloc::Global;
+use std::io::{self, BufRead, BufReader, BufWriter, Write};
 
-fn main() {
-    let mut text = io::large_buffer();
-    let n = io::read_full(0, &mut text);
-    replay(&text[..n]);
+fn main(rt: HostRuntime) -> io::Result<()> {
+    let alloc = rt.alloc();
+    let mut out = BufWriter::new(alloc, io::writer(&rt))?;
+    for line in BufReader::new(alloc, rt.reader())?.split(alloc, b'\n') {
+        answer_line(alloc, &mut out, &line?)?;
+    }
+    out.flush()
 }
 
-// Answers each line of the text; the last may lack its line end.
-fn replay(text: &[u8]) {
-    let mut at = 0;
-    while at < text.len() {
-        let end = lines::find(text, at, text.len(), b'\n');
-        answer_line(&text[at..end]);
-        at = end + 1;
+fn answer_line(alloc: Global, out: &mut impl Write, line: &[u8]) -> io::Result<()> {
+    let Ok(text) = str::from_utf8(line) else {
+        return bad(out);
+    };
+    let (name, rest) = text.split_once(' ').unwrap_or((text, ""));
+    let numbers: Option<Vec<u64>> = rest.split(' ').map(number).collect(alloc)?;
+    match numbers {
+        Some(numbers) => answer(out, name, &numbers),
+        None => bad(out),
     }
 }
 
-fn answer_line(line: &[u8]) {
-    let name_end = lines::find(line, 0, line.len(), b' ');
-    let mut numbers = [0; 4];
-    let read = lines::read_words(line, name_end, Layout::Numbers, &mut numbers);
-    answer(&line[..name_end], read, numbers);
+// A word in decimal, below 2^64. `parse` would take a sign as well.
+fn number(word: &str) -> Option<u64> {
+    if word.starts_with('+') {
+        return None;
+    }
+    word.parse().ok()
 }
 
 // Makes the call of this name where it takes so many numbers, and prints its answer.
-fn answer(name: &[u8], read: Reading, n: [u64; 4]) {
-    let count = count(read);
-    if count == 2 {
-        answer_two(name, n[0], n[1]);
-    } else if count == 3 {
-        answer_three(name, FrameRange::new(n[0], n[1]), n[2]);
-    } else if count == 4 {
-        answer_four(
+fn answer(out: &mut impl Write, name: &str, numbers: &[u64]) -> io::Result<()> {
+    match (name, numbers) {
+        ("size_in_frames", &[start, end]) => {
+            print(out, FrameRange::new(start, end).size_in_frames().map(Some))
+        }
+        ("from_phys_addr", &[address, bytes]) => print(
+            out,
+            FrameRange::from_phys_addr(address, bytes).map(Some),
+        ),
+        ("to_extended", &[start, end, frame]) => print(
+            out,
+            FrameRange::new(start, end).to_extended(frame).map(Some),
+        ),
+        ("offset_of_address", &[start, end, address]) => {
+            print(out, FrameRange::new(start, end).offset_of_address(address))
+        }
+        ("address_at_offset", &[start, end, offset]) => {
+            print(out, FrameRange::new(start, end).address_at_offset(offset))
+        }
+        ("split_at", &[start, end, frame]) => {
+            print(out, FrameRange::new(start, end).split_at(frame))
+        }
+        (_, &[start, end, other_start, other_end]) => answer_two(
+            out,
             name,
-            FrameRange::new(n[0], n[1]),
-            FrameRange::new(n[2], n[3]),
-        );
-    } else {
-        written::bad();
+            FrameRange::new(start, end),
+            FrameRange::new(other_start, other_end),
+        ),
+        _ => bad(out),
     }
 }
 
-// How many numbers there are; none where the line is no list of numbers.
-fn count(r: Reading) -> usize {
-    if r.valid { r.len } else { 0 }
-}
-
-fn answer_two(name: &[u8], a: u64, b: u64) {
-    if check::same(name, b"size_in_frames") {
-        answers::number(FrameRange::new(a, b).size_in_frames());
-    } else if check::same(name, b"from_phys_addr") {
-        answers::range(FrameRange::from_phys_addr(a, b));
-    } else {
-        written::bad();
+// The calls on two ranges.
+fn answer_two(
+    out: &mut impl Write,
+    name: &str,
+    range: FrameRange,
+    other: FrameRange,
+) -> io::Result<()> {
+    match name {
+        "contains_range" => print(
+            out,
+            range
+                .contains_range(other)
+                .map(|found| if found { Some(()) } else { None }),
+        ),
+        "overlap" => print(out, range.overlap(other)),
+        "merge" => print(out, range.merge(other)),
+        "split_range" => print(out, range.split_range(other)),
+        _ => bad(out),
     }
 }
 
-fn answer_three(name: &[u8], r: FrameRange, n: u64) {
-    if check::same(name, b"to_extended") {
-        answers::range(r.to_extended(n));
-    } else if check::same(name, b"offset_of_address") {
-        answers::number(r.offset_of_address(n));
-    } else if check::same(name, b"address_at_offset") {
-        answers::number(r.address_at_offset(n));
-    } else if check::same(name, b"split_at") {
-        answers::halves(r.split_at(n));
-    } else {
-        written::bad();
+// An answer as a line: `yes` or `no` and the value, a range as its start and end; `refused 2`.
+fn print<T: Shows<N>, const N: usize>(
+    out: &mut impl Write,
+    answer: Result<Option<T>, OutOfBounds>,
+) -> io::Result<()>
+    requires fits { N * 8 < 2 ^ 63 }
+{
+    let mut words = [0; N];
+    let refusal = range_answers::put(answer, &mut words);
+    if refusal != 0 {
+        return writeln!(out, "refused {refusal}");
     }
+    if let [found, value @ ..] = words.as_slice() {
+        write!(out, "{}", if *found == 1 { "yes" } else { "no" })?;
+        for word in value {
+            write!(out, " {word}")?;
+        }
+    }
+    writeln!(out)
 }
 
-fn answer_four(name: &[u8], a: FrameRange, b: FrameRange) {
-    if check::same(name, b"contains_range") {
-        answers::test(a.contains_range(b));
-    } else if check::same(name, b"overlap") {
-        answers::range(a.overlap(b));
-    } else if check::same(name, b"merge") {
-        answers::range(a.merge(b));
-    } else if check::same(name, b"split_range") {
-        answers::split(a.split_range(b));
-    } else {
-        written::bad();
-    }
+// The answer to a line that is no call.
+fn bad(out: &mut impl Write) -> io::Result<()> {
+    writeln!(out, "(bad)")
 }

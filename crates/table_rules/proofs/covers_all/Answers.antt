@@ -1,37 +1,30 @@
 -- `covers_all`: at each turn a region that is done with is passed, or a chunk that lies in regions.
 use native.Mathlib.Omega.{arith}
-use Prim.Native.Nat.{◌-◌}
 use Rattle.tables.proofs.Sums.{tidy_pair}
 use Rattle.table_rules.proofs.Walks.{reached_start, covered_ends, no_region, region_below, in_gap, chunk_in, chunk_on}
 use Rattle.table_rules.proofs.covers_all.Goals as goal
 
 pub loop-i-init : goal.loop-i-init
-loop-i-init c = reached_start c.args.chunks_len c.args.chunks.now c.args.regions_len c.args.regions.now c.requires.chunks_value c.requires.regions_value
+loop-i-init c = reached_start _ _ _ _ c.requires.chunks_value c.requires.regions_value
 
 pub returns-then-regions_len-j : goal.returns-then-regions_len-j
-returns-then-regions_len-j c = let a = c.args in
-    no_region a.chunks_len a.chunks.now a.regions_len a.regions.now c.requires.chunks_value c.requires.regions_value c.loop-i.i c.loop-i.j c.loop-i.from c.loop-i.invariant (omega arith) c.if-regions_len-j.true
+returns-then-regions_len-j c = no_region c.loop-i.invariant (omega arith) c.if-regions_len-j.true
 
 pub loop-i-preserved-then-regions-j : goal.loop-i-preserved-then-regions-j
-loop-i-preserved-then-regions-j c = let a = c.args in
-    region_below a.chunks_len a.chunks.now a.regions_len a.regions.now c.requires.chunks_value c.requires.regions_value c.loop-i.i c.loop-i.j c.loop-i.from c.loop-i.invariant (omega arith) (omega arith) (omega (arith, c.highest-first.ensures))
+loop-i-preserved-then-regions-j c = region_below c.loop-i.invariant (omega arith) (omega arith) (omega (arith, c.max-first.ensures))
 
 pub returns-then-first-regions : goal.returns-then-first-regions
-returns-then-first-regions c = let a = c.args in
-    in_gap a.chunks_len a.chunks.now a.regions_len a.regions.now c.requires.chunks_value c.requires.regions_value c.loop-i.i c.loop-i.j c.loop-i.from c.loop-i.invariant (omega arith) (omega arith) (omega (arith, c.highest-first.ensures))
+returns-then-first-regions c = in_gap c.loop-i.invariant (omega arith) (omega arith) (omega (arith, c.max-first.ensures))
 
 pub loop-i-preserved-then-chunks-i : goal.loop-i-preserved-then-chunks-i
-loop-i-preserved-then-chunks-i c = let a = c.args in
-    chunk_in a.chunks_len a.chunks.now a.regions_len a.regions.now c.requires.chunks_value c.requires.regions_value c.loop-i.i c.loop-i.j c.loop-i.from c.loop-i.invariant (omega arith) (omega arith) (omega (arith, c.highest-first.ensures)) c.if-chunks-i.true
+loop-i-preserved-then-chunks-i c = chunk_in c.loop-i.invariant (omega arith) (omega arith) (omega (arith, c.max-first.ensures)) c.if-chunks-i.true
 
 pub overflow_add-from-else-chunks-i : goal.overflow_add-from-else-chunks-i
 overflow_add-from-else-chunks-i c = let a = c.args in
     omega (arith, (tidy_pair a.regions_len a.regions.now c.requires.regions_value c.loop-i.j (omega arith)).low)
 
 pub loop-i-preserved : goal.loop-i-preserved
-loop-i-preserved c = let a = c.args in
-    chunk_on a.chunks_len a.chunks.now a.regions_len a.regions.now c.requires.chunks_value c.requires.regions_value c.loop-i.i c.loop-i.j c.loop-i.from c.loop-i.invariant (omega arith) (omega arith) (omega (arith, c.highest-first.ensures)) (omega (arith, c.highest-first.ensures)) c.if-chunks-i.false
+loop-i-preserved c = chunk_on c.loop-i.invariant (omega arith) (omega arith) (omega (arith, c.max-first.ensures)) (omega (arith, c.max-first.ensures)) c.if-chunks-i.false
 
 pub returns : goal.returns
-returns c = let a = c.args in
-    covered_ends a.chunks_len a.chunks.now a.regions_len a.regions.now c.requires.chunks_value c.requires.regions_value c.loop-i.i c.loop-i.j c.loop-i.from c.loop-i.invariant c.loop-i-test.false
+returns c = covered_ends c.loop-i.invariant c.loop-i-test.false
