@@ -3,7 +3,7 @@ use mathlib.Core.Path.{ap, ◌∙◌}
 use Prim.Native.Nat.{ℕ, ◌-◌}
 use lib.Dec.{ltb}
 use Rattle.model.proofs.Ruled.{tidy_is}
-use Rattle.early.proofs.Covered.{counted}
+use Rattle.pairs.proofs.Covered.{counted}
 use Rattle.pairs.specs.Pairs.{pair_slots}
 use Rattle.pairs.proofs.covers.Goals as goal
 

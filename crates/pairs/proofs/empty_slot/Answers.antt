@@ -3,7 +3,7 @@ use mathlib.Core.Path.{sym, ap, ◌∙◌}
 use lib.ListN.{length-set}
 use Rattle.model.specs.Lists.{unused}
 use Rattle.model.specs.Store.{slot_words}
-use Rattle.early.proofs.First.{remove_is}
+use Rattle.pairs.proofs.First.{remove_is}
 use Rattle.pairs.specs.Pairs.{pair_slots}
 use Rattle.pairs.proofs.Slots.{put, pairs_length}
 use native.Mathlib.Omega.{arith}

@@ -1,6 +1,5 @@
 -- `first_wanted`: at each turn none of the first i slots is wanted.
-use Prim.Native.Nat.{◌-◌}
-use Rattle.early.proofs.First.{first_starts}
+use Rattle.pairs.proofs.First.{first_starts}
 use Rattle.pairs.specs.Pairs.{wants, pair_slots}
 use Rattle.pairs.proofs.Turns.{search_stops, search_passes, search_ends}
 use native.Mathlib.Omega.{arith}

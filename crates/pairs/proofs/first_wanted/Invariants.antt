@@ -2,7 +2,7 @@
 use mathlib.Core.Path.{◌≡◌}
 use Prim.Native.Nat.{◌-◌, ◌≤◌}
 use lib.ListN.{drop}
-use Rattle.early.proofs.First.{first_slot, onward}
+use Rattle.pairs.proofs.First.{first_slot, onward}
 use Rattle.pairs.specs.Pairs.{wants, pair_slots}
 use Rattle.pairs.proofs.first_wanted.Given as goal
 

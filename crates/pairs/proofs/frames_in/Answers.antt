@@ -1,9 +1,9 @@
 -- `frames_in`: at each turn `total` frames of the range are in the first i slots.
 use mathlib.Core.Path.{ap}
-use Prim.Native.Nat.{◌+◌, ◌-◌, ◌≤◌}
+use Prim.Native.Nat.{◌+◌, ◌≤◌}
 use Rattle.memory_structs.specs.Range.{range, top}
 use Rattle.model.proofs.Ruled.{tidy_is}
-use Rattle.early.specs.Slots.{frames_in}
+use Rattle.pairs.specs.Slots.{frames_in}
 use Rattle.pairs.proofs.Slots.{pair_low}
 use Rattle.pairs.proofs.Turns.{frames_turn, none_left, few_common}
 use native.Mathlib.Omega.{arith}

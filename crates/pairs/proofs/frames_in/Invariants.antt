@@ -2,7 +2,7 @@
 use mathlib.Core.Path.{◌≡◌}
 use Prim.Native.Nat.{◌+◌, ◌-◌, ◌*◌, ◌≤◌}
 use Rattle.memory_structs.specs.Range.{range, top}
-use Rattle.early.specs.Slots.{frames_in}
+use Rattle.pairs.specs.Slots.{frames_in}
 use Rattle.pairs.proofs.Turns.{left}
 use Rattle.pairs.proofs.frames_in.Given as goal
 

@@ -4,8 +4,8 @@ use mathlib.Core.Path.{◌≡◌, sym, ap, ◌∙◌}
 use Rattle.memory_structs.specs.Range.{range}
 use Rattle.model.specs.declared.Place.TheVariants.{Nowhere, At}
 use Rattle.model.specs.Store.{slot_words}
-use Rattle.early.specs.Slots.{first_unused}
-use Rattle.early.proofs.First.{insert_at_holds, insert_full, unused_bound}
+use Rattle.pairs.specs.Slots.{first_unused}
+use Rattle.pairs.proofs.First.{insert_at_holds, insert_full, unused_bound}
 use Rattle.pairs.specs.Pairs.{pair_slots, first_of}
 use Rattle.pairs.proofs.Slots.{pairs_length}
 use Rattle.pairs.proofs.insert.Goals as goal

@@ -1,7 +1,7 @@
 -- `sum`: every frame of the slots is at or below the top.
 use mathlib.Core.Path.{◌∙◌}
 use Rattle.model.proofs.Ruled.{tidy_is}
-use Rattle.early.proofs.Covered.{counted_all}
+use Rattle.pairs.proofs.Covered.{counted_all}
 use Rattle.pairs.specs.Pairs.{pair_slots}
 use Rattle.pairs.proofs.sum.Goals as goal
 

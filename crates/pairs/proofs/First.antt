@@ -1,0 +1,116 @@
+-- A search over slots from the first on.
+use mathlib.Core.Path.{◌≡◌, refl, sym, ap, ◌∙◌}
+use mathlib.Core.Bool.{Bool, true, false}
+use mathlib.Core.List.{List, [], ◌∷◌}
+use Prim.Native.Nat.{ℕ, zero, suc, ◌+◌, ◌≤◌, ◌<◌}
+use native.Mathlib.Nat.{add-zero, zero-add}
+use native.Mathlib.Numerals.{add-one}
+use native.Mathlib.Omega.{arith}
+use lib.ListN.{length, drop, get_or, set, drop_of_length-le}
+use lib.Seq.{drop-cons}
+use Rattle.model.proofs.Forms.{remove_set}
+use Rattle.std.specs.Prelude.{if◌then◌else◌}
+use Rattle.model.specs.Lists.{Slot, unused, used, later, first_where, insert_early, remove}
+use Rattle.model.specs.declared.Place.{Place}
+use Rattle.model.specs.declared.Place.TheVariants.{Nowhere, At}
+use Rattle.memory_structs.specs.declared.range.FrameRange.{FrameRange}
+use Rattle.pairs.specs.Slots.{first_unused}
+
+-- the first slot that passes
+unfoldable pub first_slot : (Slot → Bool) → List Slot → Place
+first_slot q [] = Nowhere
+first_slot q (x ∷ s) = if q x then At 0 else later (first_slot q s)
+
+abbrev pub passes : (FrameRange → Bool) → Slot → Bool
+passes p unused = false
+passes p (used r) = p r
+
+abbrev pub is_unused : Slot → Bool
+is_unused unused = true
+is_unused (used r) = false
+
+pub where_is : (p : FrameRange → Bool) (s : List Slot) → first_where p s ≡ first_slot (passes p) s
+unfolding first_where first_slot
+where_is p [] = refl
+where_is p (unused ∷ s) = ap later (where_is p s)
+where_is p (used r ∷ s) = ap (λ (q : Place). if p r then At 0 else later q) (where_is p s)
+
+pub unused_is : (s : List Slot) → first_unused s ≡ first_slot is_unused s
+unfolding first_unused first_slot
+unused_is [] = refl
+unused_is (unused ∷ s) = refl
+unused_is (used r ∷ s) = ap later (unused_is s)
+
+-- a place found i slots further on
+unfoldable pub onward : ℕ → Place → Place
+onward i Nowhere = Nowhere
+onward i (At j) = At (i + j)
+
+onward_later : (i : ℕ) (q : Place) → onward i (later q) ≡ onward (i + 1) q
+unfolding onward later
+onward_later i Nowhere = refl
+onward_later i (At j) = let e : i + suc j ≡ i + 1 + j = omega arith in ap At e
+
+onward_none : (q : Place) → onward 0 q ≡ q
+unfolding onward
+onward_none Nowhere = refl
+onward_none (At j) = ap At (zero-add j)
+
+module _ (q : Slot → Bool) (s : List Slot) where
+  pub first_starts : first_slot q s ≡ onward 0 (first_slot q (drop 0 s))
+  first_starts = sym (onward_none (first_slot q s))
+
+  -- one turn, with what held at the slot i
+  pub first_passes : (i : ℕ) → i < length s → q (get_or s i unused) ≡ false → first_slot q s ≡ onward i (first_slot q (drop i s)) → first_slot q s ≡ onward (i + 1) (first_slot q (drop (i + 1) s))
+  unfolding first_slot
+  first_passes i h e inv =
+      inv ∙ ap (λ (l : List Slot). onward i (first_slot q l)) (drop-cons s i unused h) ∙ rw (e, add-one i) (onward_later i (first_slot q (drop (suc i) s)) ∙ rw (add-one i))
+
+  pub first_stops : (i : ℕ) → i < length s → q (get_or s i unused) ≡ true → first_slot q s ≡ onward i (first_slot q (drop i s)) → At i ≡ first_slot q s
+  unfolding first_slot onward
+  first_stops i h e inv = sym (inv ∙ ap (λ (l : List Slot). onward i (first_slot q l)) (drop-cons s i unused h) ∙ rw e (ap At (add-zero i)))
+
+  pub first_ends : (i : ℕ) → length s ≤ i → first_slot q s ≡ onward i (first_slot q (drop i s)) → Nowhere ≡ first_slot q s
+  unfolding first_slot onward
+  first_ends i h inv = sym (inv ∙ ap (λ (l : List Slot). onward i (first_slot q l)) (drop_of_length-le s h))
+
+-- the early insert, by where the first slot that is not used stands
+later_at : (q : Place) (i : ℕ) → later q ≡ At (suc i) → q ≡ At i
+unfolding later
+later_at Nowhere i e = absurd (let z : ◌≡◌ {A = ℕ} 0 1 = cc in omega arith)
+later_at (At j) i e = cc
+
+later_zero : (q : Place) → later q ≡ At 0 → ⊥
+unfolding later
+later_zero Nowhere e = let z : ◌≡◌ {A = ℕ} 0 1 = cc in omega arith
+later_zero (At j) e = let z : suc j ≡ 0 = cc in omega arith
+
+later_nowhere : (q : Place) → later q ≡ Nowhere → q ≡ Nowhere
+unfolding later
+later_nowhere Nowhere e = refl
+later_nowhere (At j) e = absurd (let z : ◌≡◌ {A = ℕ} 0 1 = cc in omega arith)
+
+pub insert_at_holds : (r : FrameRange) (s : List Slot) (i : ℕ) → first_unused s ≡ At i → insert_early r s ≡ set s i (used r)
+unfolding first_unused insert_early
+insert_at_holds r [] i e = refl
+insert_at_holds r (unused ∷ s) zero e = refl
+insert_at_holds r (unused ∷ s) (suc i) e = absurd (let z : 0 ≡ suc i = cc in omega arith)
+insert_at_holds r (used x ∷ s) zero e = absurd (later_zero (first_unused s) e)
+insert_at_holds r (used x ∷ s) (suc i) e = ap (λ (l : List Slot). used x ∷ l) (insert_at_holds r s i (later_at (first_unused s) i e))
+
+pub insert_full : (r : FrameRange) (s : List Slot) → first_unused s ≡ Nowhere → insert_early r s ≡ s
+unfolding first_unused insert_early
+insert_full r [] e = refl
+insert_full r (unused ∷ s) e = absurd (let z : ◌≡◌ {A = ℕ} 0 1 = cc in omega arith)
+insert_full r (used x ∷ s) e = ap (λ (l : List Slot). used x ∷ l) (insert_full r s (later_nowhere (first_unused s) e))
+
+pub unused_bound : (s : List Slot) (i : ℕ) → first_unused s ≡ At i → i < length s
+unfolding first_unused
+unused_bound [] i e = absurd (let z : ◌≡◌ {A = ℕ} 0 1 = cc in omega arith)
+unused_bound (unused ∷ s) i e = let z : 0 ≡ i = cc in omega arith
+unused_bound (used x ∷ s) zero e = absurd (later_zero (first_unused s) e)
+unused_bound (used x ∷ s) (suc i) e = omega (arith, unused_bound s i (later_at (first_unused s) i e))
+
+pub remove_is : (s : List Slot) (i : ℕ) → i < length s → remove false i 1 s ≡ set s i unused
+unfolding remove
+remove_is s i h = remove_set i s
