@@ -13,8 +13,8 @@ use Rattle.model.specs.Boot.{slots, early}
 use Rattle.model.specs.Store.{slots_of, early_of}
 use Rattle.model.specs.declared.EarlyList.{EarlyList}
 use Rattle.model.proofs.Stored.{early_again}
-use Rattle.early.specs.Slots.{IsEarly}
-use Rattle.early.proofs.Slots.{stored, written}
+use Rattle.model.proofs.Early.{IsEarly}
+use Rattle.model.proofs.Early.{stored, written}
 use Rattle.carving.specs.declared.RangeList.{RangeList}
 use Rattle.carving.specs.Ranges.{ranges_in, Whole}
 use Rattle.carving.proofs.Listed.{whole_length, range_at_holds}

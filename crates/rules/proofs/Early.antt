@@ -114,9 +114,11 @@ module _ (a : FrameAllocator) (s₀ : Arrays a.general_free) (s₁ : Arrays a.re
     all_stored h =
         let free = both_first (P₀ && P₁) (P₂ && P₃) h in
         let regions = both_second (P₀ && P₁) (P₂ && P₃) h in
-        rw (list_stored a.general_free a.general_free_len (part 0 ws) s₀ (both_first P₀ P₁ free),
+        rw (
+          list_stored a.general_free a.general_free_len (part 0 ws) s₀ (both_first P₀ P₁ free),
           list_stored a.reserved_free a.reserved_free_len (part 1024 ws) s₁ (both_second P₀ P₁ free),
-          list_stored a.general_regions a.general_regions_len (part 2048 ws) s₂ (both_first P₂ P₃ regions))
+          list_stored a.general_regions a.general_regions_len (part 2048 ws) s₂ (both_first P₂ P₃ regions),
+        )
         (list_stored a.reserved_regions a.reserved_regions_len (part 3072 ws) s₃ (both_second P₂ P₃ regions))
 
     all_plain : ((S₀ && S₁) && (S₂ && S₃)) ≡ true → rules (early_lists a) ≡ true → plain_record a ≡ true
@@ -128,9 +130,11 @@ module _ (a : FrameAllocator) (s₀ : Arrays a.general_free) (s₁ : Arrays a.re
         let free_tidy = both_first (t (slots_of a.general_free) && t (slots_of a.reserved_free)) _ k in
         let rest = both_second (t (slots_of a.general_free) && t (slots_of a.reserved_free)) _ k in
         let regions_tidy = both_first (t (slots_of a.general_regions) && t (slots_of a.reserved_regions)) _ rest in
-        rw (list_plain a.general_free a.general_free_len (part 0 ws) s₀ (both_first S₀ S₁ free) (both_first (t (slots_of a.general_free)) (t (slots_of a.reserved_free)) free_tidy),
+        rw (
+          list_plain a.general_free a.general_free_len (part 0 ws) s₀ (both_first S₀ S₁ free) (both_first (t (slots_of a.general_free)) (t (slots_of a.reserved_free)) free_tidy),
           list_plain a.reserved_free a.reserved_free_len (part 1024 ws) s₁ (both_second S₀ S₁ free) (both_second (t (slots_of a.general_free)) (t (slots_of a.reserved_free)) free_tidy),
-          list_plain a.general_regions a.general_regions_len (part 2048 ws) s₂ (both_first S₂ S₃ regions) (both_first (t (slots_of a.general_regions)) (t (slots_of a.reserved_regions)) regions_tidy))
+          list_plain a.general_regions a.general_regions_len (part 2048 ws) s₂ (both_first S₂ S₃ regions) (both_first (t (slots_of a.general_regions)) (t (slots_of a.reserved_regions)) regions_tidy),
+        )
         (list_plain a.reserved_regions a.reserved_regions_len (part 3072 ws) s₃ (both_second S₂ S₃ regions) (both_second (t (slots_of a.general_regions)) (t (slots_of a.reserved_regions)) regions_tidy))
 
     -- so the record is tested on its slots and then on its pairs

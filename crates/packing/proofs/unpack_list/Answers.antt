@@ -3,7 +3,6 @@ use mathlib.Core.Path.{refl}
 use mathlib.Core.Bool.{false}
 use lib.ListN.{length-set}
 use Rattle.model.specs.Store.{early_of}
-
 use Rattle.packing.proofs.Turns.{starts_of, ends_of, flags_of, fill_turn, fill_end, start_is, end_is, flag_is, starts_length, ends_length, flags_length}
 use native.Mathlib.Omega.{arith}
 use Rattle.packing.proofs.unpack_list.Goals as goal

@@ -10,5 +10,5 @@ invariant-loop-i l = record {
   sizes : Arrays l.list;
   starts : take l.i l.list.starts ≡ take l.i (starts_of l.t);
   ends : take l.i l.list.ends ≡ take l.i (ends_of l.t);
-  used : take l.i l.list.used ≡ take l.i (flags_of l.t)
+  used : take l.i l.list.used ≡ take l.i (flags_of l.t);
 }
