@@ -89,7 +89,7 @@ fn perform(a: FrameAllocator, words: &mut [u64], operation: Operation) -> Called
     ensures { Gives (call_of operation) a words.old result words.new }
 {
     let mut slots = [0u64; 256];
-    let opened = packing::open(a, words, &mut slots);
+    let opened = rules::open(a, words, &mut slots);
     if opened.number != 0 {
         return rules::refused(a, opened.number);
     }

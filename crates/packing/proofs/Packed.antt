@@ -13,9 +13,7 @@ use Rattle.model.specs.declared.FrameAllocator.{FrameAllocator}
 use Rattle.model.proofs.Lawful.{AllSound, Slots, Lawful}
 use Rattle.model.proofs.Ruled.{lawful_rules}
 use Rattle.model.proofs.Stored.{Kept, sorted, words_length}
-use Rattle.model.proofs.Whole.{Tested, tested}
-use Rattle.rules.specs.Check as whole
-use Rattle.rules.proofs.Going.{stores}
+use Rattle.model.proofs.Whole.{Tested}
 use Rattle.pairs.specs.Pairs.{pair_slots, IsPairs}
 use Rattle.pairs.proofs.Slots.{pairs_of}
 use Rattle.entries.specs.declared.header.WhichList.{WhichList}
@@ -193,7 +191,7 @@ pub sorted_words : (l : Lists) → l.sorted ≡ true → (ws : List ℕ) → ent
 unfolding entries_of words_of part_words words_in width
 sorted_words l e ws = rw e
 
--- ---- a record that keeps the rules
+-- ---- a record that keeps the rules of storing
 
 kept_early : {b : Bool} {e : EarlyList} {n : ℕ} {w : List ℕ} → Kept b e n w → b ≡ false → early_of (slots_of e) ≡ e
 unfolding early_in slots_in
@@ -203,10 +201,7 @@ no_slots : {b : Bool} {e : EarlyList} {n : ℕ} {w : List ℕ} → Kept b e n w 
 unfolding early_in slots_in
 no_slots {e = e} {n = n} {w = w} k p = sym (subst (λ (x : Bool). Kept x e n w) p k).slots
 
-module _ (a : FrameAllocator) (ws : List ℕ) (u : whole.Ruled a ws) where
-  kept : Tested a ws
-  kept = tested a ws u.long (stores a ws u)
-
+module _ (a : FrameAllocator) (ws : List ℕ) (kept : Tested a ws) where
   -- its header is that of its lists
   pub header_lists : header_in a ≡ header_of (load a ws)
   unfolding header_of load

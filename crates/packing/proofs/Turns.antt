@@ -21,8 +21,8 @@ use Rattle.model.proofs.Stored.{double}
 use Rattle.pairs.specs.Pairs.{pair_slot, pair_slots, IsPairs}
 use Rattle.pairs.proofs.Slots.{pairs_length, pair_at_holds, range_at_holds, slot_range}
 use Rattle.model.specs.declared.FrameAllocator.{FrameAllocator}
-use Rattle.early.proofs.Slots.{Arrays}
-use Rattle.packing.specs.Packed.{interleaved, packed, starts_of, ends_of, flags_of}
+use Rattle.model.proofs.Early.{Arrays}
+use Rattle.packing.specs.Packed.{interleaved, packed}
 
 -- ---- packing
 
@@ -59,7 +59,19 @@ pub pack_list : (e : EarlyList) → early_of (slots_of e) ≡ e → interleaved 
 unfolding early_of
 pack_list e p = ap (λ (x : EarlyList). interleaved x.starts x.ends) (sym p) ∙ pack_slots (slots_of e)
 
--- ---- unpacking: an array that is filled from its beginning
+-- ---- unpacking
+
+-- a list's pairs as the arrays of its slots
+abbrev pub starts_of : List ℕ → List ℕ
+starts_of ws = map (λ x. (range_in x).start) (pair_slots 32 ws)
+
+abbrev pub ends_of : List ℕ → List ℕ
+ends_of ws = map (λ x. (range_in x).end) (pair_slots 32 ws)
+
+abbrev pub flags_of : List ℕ → List Bool
+flags_of ws = map is_used (pair_slots 32 ws)
+
+-- an array that is filled from its beginning
 
 module _ {A : Type 0} (d : A) (xs m : List A) (i : ℕ) where
   pub fill_turn : i < length xs → i < length m → (a : A) → a ≡ get_or m i d → take i xs ≡ take i m → take (i + 1) (set xs i a) ≡ take (i + 1) m
@@ -123,10 +135,10 @@ put_four ws p q r s n np nq nr =
     ∙ put_next 192 64 ((p ++ q) ++ r) (drop 64 z) s (omega (arith, length-append (p ++ q) r, length-append p q))
     ∙ ap (λ (x : List ℕ). ((p ++ q) ++ r) ++ (s ++ x)) end ∙ append_assoc (p ++ q) r (s ++ []) ∙ append_assoc p q (r ++ (s ++ []))
 
-abbrev pairs_of : EarlyList → List ℕ
+abbrev pub pairs_of : EarlyList → List ℕ
 pairs_of e = interleaved e.starts e.ends
 
-pairs_64 : (e : EarlyList) → Arrays e → {p : List ℕ} → p ≡ pairs_of e → length p ≡ 64
+pub pairs_64 : (e : EarlyList) → Arrays e → {p : List ℕ} → p ≡ pairs_of e → length p ≡ 64
 pairs_64 e n {p} h = ap length h ∙ interleaved_length e.starts e.ends (omega (arith, n.starts, n.ends)) ∙ omega (arith, n.starts)
 
 pub pack_all : (ws : List ℕ) → length ws ≡ 256 → (a : FrameAllocator) → Arrays a.general_free → Arrays a.reserved_free → Arrays a.general_regions → {p q r s : List ℕ}

@@ -5,12 +5,10 @@ use Rattle.model.specs.Store.{early_of, slot_words, range_in, is_used}
 use Rattle.model.specs.declared.Called.{Called}
 use Rattle.model.specs.declared.EarlyList.{EarlyList}
 use Rattle.model.specs.declared.FrameAllocator.{FrameAllocator}
-use Rattle.rules.specs.Check.{checked}
 use Rattle.pairs.specs.Pairs.{pair_slots, IsPairs}
 use Rattle.entries.specs.Whole.{part_at, header}
 use Rattle.entries.specs.declared.header.Header.{Header}
 use Rattle.entries.specs.declared.header.Answered.{Answered}
-use Rattle.packing.specs.declared.Opened.{Opened}
 
 -- ---- opened
 
@@ -42,22 +40,7 @@ pub record Apart (a : FrameAllocator) (h : Header) (after : List ℕ) : Type 0 w
   pub header : h ≡ header_in a
   pub slots : a.sorted ≡ false → after ≡ packed a
 
--- and the test's number
-pub record Opens (a : FrameAllocator) (ws : List ℕ) (o : Opened) (after : List ℕ) : Type 0 where
-  pub number : o.number ≡ checked a ws
-  pub apart : Apart a o.header after
-
 -- ---- closed
-
--- a list's pairs as the arrays of its slots
-abbrev pub starts_of : List ℕ → List ℕ
-starts_of ws = map (λ x. (range_in x).start) (pair_slots 32 ws)
-
-abbrev pub ends_of : List ℕ → List ℕ
-ends_of ws = map (λ x. (range_in x).end) (pair_slots 32 ws)
-
-abbrev pub flags_of : List ℕ → List Bool
-flags_of ws = map is_used (pair_slots 32 ws)
 
 -- four lists of 32 pairs
 pub record Unpackable (ws : List ℕ) : Type 0 where

@@ -16,10 +16,10 @@ use Rattle.model.specs.declared.FrameAllocator.{FrameAllocator}
 use Rattle.rules.specs.Check.{checked}
 use Rattle.rules.proofs.Numbers.{short_call, gives_refused, accepted_call, checked_ruled}
 use Rattle.entries.specs.Whole.{lists_in, Ruled}
-use Rattle.packing.specs.Packed.{Opens}
+use Rattle.rules.specs.Check.{Opens}
 use Rattle.packing.specs.Open.{lent}
-use Rattle.packing.specs.declared.Opened.{Opened}
-use Rattle.packing.proofs.OpenAs.{OpenAs, apart_as, open_ruled, open_lists}
+use Rattle.rules.specs.declared.Opened.{Opened}
+use Rattle.rules.proofs.OpenAs.{OpenAs, apart_as, open_ruled, open_lists}
 use Rattle.query_core.specs.Listed.{Listed}
 
 module _ (c : Call) (a : FrameAllocator) (ws : List ℕ) (e : short_buffer c ≡ false) where

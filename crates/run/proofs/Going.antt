@@ -11,9 +11,10 @@ use Rattle.rules.specs.Check.{checked}
 use Rattle.entries.specs.Whole.{Ruled}
 use Rattle.entries.specs.declared.header.Header.{Header}
 use Rattle.entries.specs.declared.header.Answered.{Answered}
-use Rattle.packing.specs.Packed.{Apart, Opens, Closable}
+use Rattle.packing.specs.Packed.{Apart, Closable}
+use Rattle.rules.specs.Check.{Opens}
 use Rattle.packing.specs.Open.{lent}
-use Rattle.packing.specs.declared.Opened.{Opened}
+use Rattle.rules.specs.declared.Opened.{Opened}
 use Rattle.run_calls.specs.declared.RunCall.{RunCall}
 use Rattle.run_calls.specs.declared.RunCall.TheVariants.{Change, Keep}
 use Rattle.run_calls.specs.declared.FormCall.{FormCall}

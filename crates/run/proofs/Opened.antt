@@ -23,7 +23,7 @@ use Rattle.entries.specs.declared.header.Header.{Header}
 use Rattle.entries.specs.declared.header.Answered.{Answered}
 use Rattle.packing.specs.Packed.{Apart, Closable, closed}
 use Rattle.packing.specs.Open.{lent, DoesOpen}
-use Rattle.packing.proofs.OpenAs.{OpenAs, apart_as, open_ruled, open_lists, open_answers, open_words, open_after, close_can, close_is}
+use Rattle.rules.proofs.OpenAs.{OpenAs, apart_as, open_ruled, open_lists, open_answers, open_words, open_after, close_can, close_is}
 use Rattle.queries.proofs.Asked.{held_going}
 use Rattle.run_calls.specs.declared.OpenCall.{OpenCall}
 use Rattle.run_calls.specs.Commands.{open_call}

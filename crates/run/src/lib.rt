@@ -47,7 +47,7 @@ pub fn run(
     ensures { Runs areas.now calls.now a words.old answers.old held.old result words.new answers.new held.new }
 {
     let mut slots = [0u64; 256];
-    let opened = packing::open(a, words, &mut slots);
+    let opened = rules::open(a, words, &mut slots);
     let number = opened.number;
     // The record as it was opened last: its lengths and its slots may be old ones.
     let mut allocator = a;

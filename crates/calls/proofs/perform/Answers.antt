@@ -5,7 +5,7 @@ use Rattle.model.specs.Calls.{Gives}
 use Rattle.model.specs.declared.Called.{Called}
 use Rattle.rules.specs.Check.{checked}
 use Rattle.rules.proofs.Numbers.{gives_refused}
-use Rattle.packing.proofs.OpenAs.{call_may, call_closes, call_gives}
+use Rattle.rules.proofs.OpenAs.{call_may, call_closes, call_gives}
 use Rattle.calls.specs.Operations.{call_of}
 use Rattle.calls.proofs.Kept.{never_short, keeps_form}
 use Rattle.calls.proofs.perform.Goals as goal

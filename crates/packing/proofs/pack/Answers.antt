@@ -1,20 +1,7 @@
 -- `pack`: four lists, one after the other.
-use Rattle.early.proofs.Slots.{array_sizes}
+use Rattle.model.proofs.Early.{array_sizes}
 use Rattle.packing.proofs.Turns.{pack_all}
-use borrow.Author.Rules.{rules}
 use Rattle.packing.proofs.pack.Goals as goal
-
-pub pack_list-requires-3 : goal.pack_list-requires-3
-pack_list-requires-3 c = let n = array_sizes c.args.a.general_regions c.well_formed.0.1.1.1.1.1.0 in record {
-  starts_len = (n.starts, n.ends);
-  t_len = search rules;
-}
-
-pub pack_list-requires-4 : goal.pack_list-requires-4
-pack_list-requires-4 c = let n = array_sizes c.args.a.reserved_regions c.well_formed.0.1.1.1.1.1.1.0 in record {
-  starts_len = (n.starts, n.ends);
-  t_len = search rules;
-}
 
 pub returns : goal.returns
 returns c = pack_all c.args.entries.now c.requires c.args.a (array_sizes c.args.a.general_free c.well_formed.0.1.1.1.0) (array_sizes c.args.a.reserved_free c.well_formed.0.1.1.1.1.0) (array_sizes c.args.a.general_regions c.well_formed.0.1.1.1.1.1.0)

@@ -4,8 +4,8 @@ use Rattle.rules.proofs.Split.{general_free_table, reserved_free_table, general_
 use Rattle.rules.proofs.tables_agree.Goals as goal
 
 pub covers_all-requires : goal.covers_all-requires
-covers_all-requires c = let r = general_regions_table c.args.a c.args.words.now c.requires.in_bounds c.requires.words_value c.requires.sorted_value in
-    let f = general_free_table c.args.a c.args.words.now c.requires.in_bounds c.requires.words_value c.requires.sorted_value in record {
+covers_all-requires c = let r = general_regions_table c.args.a c.args.words.now c.requires.sorted_value c.requires.in_bounds c.requires.words_value in
+    let f = general_free_table c.args.a c.args.words.now c.requires.sorted_value c.requires.in_bounds c.requires.words_value in record {
       regions_len_in_bounds = (r.fits, f.fits);
       regions_value = r.entries_tidy;
       chunks_value = f.entries_tidy;
@@ -15,8 +15,8 @@ pub returns-then-not-covers_all : goal.returns-then-not-covers_all
 returns-then-not-covers_all c = general_outside _ _ _ _ (sym c.if-not-covers_all.true ∙ c.covers_all.ensures) ∙ in_tables c.args.a c.args.words.now c.requires.sorted_value
 
 pub covers_all-requires-2 : goal.covers_all-requires-2
-covers_all-requires-2 c = let r = reserved_regions_table c.args.a c.args.words.now c.requires.in_bounds c.requires.words_value c.requires.sorted_value in
-    let f = reserved_free_table c.args.a c.args.words.now c.requires.in_bounds c.requires.words_value c.requires.sorted_value in record {
+covers_all-requires-2 c = let r = reserved_regions_table c.args.a c.args.words.now c.requires.sorted_value c.requires.in_bounds c.requires.words_value in
+    let f = reserved_free_table c.args.a c.args.words.now c.requires.sorted_value c.requires.in_bounds c.requires.words_value in record {
       regions_len_in_bounds = (r.fits, f.fits);
       regions_value = r.entries_tidy;
       chunks_value = f.entries_tidy;
@@ -28,8 +28,8 @@ returns-then-not-covers_all-2 c = reserved_outside _ _ _ _
     ∙ in_tables c.args.a c.args.words.now c.requires.sorted_value
 
 pub meet-requires : goal.meet-requires
-meet-requires c = let r = general_regions_table c.args.a c.args.words.now c.requires.in_bounds c.requires.words_value c.requires.sorted_value in
-    let f = reserved_regions_table c.args.a c.args.words.now c.requires.in_bounds c.requires.words_value c.requires.sorted_value in record {
+meet-requires c = let r = general_regions_table c.args.a c.args.words.now c.requires.sorted_value c.requires.in_bounds c.requires.words_value in
+    let f = reserved_regions_table c.args.a c.args.words.now c.requires.sorted_value c.requires.in_bounds c.requires.words_value in record {
       t_len_in_bounds = (r.fits, f.fits);
       t_value = r.entries_tidy;
       u_value = f.entries_tidy;
