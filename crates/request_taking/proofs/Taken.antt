@@ -1,7 +1,6 @@
 -- A grant from one of the four lists: refused, or done.
 use Prim.Native.Nat.{ℕ, ◌+◌, ◌-◌, ◌≤◌, ◌<◌}
 use mathlib.Core.Path.{◌≡◌, refl, sym, ap, subst, ◌∙◌}
-use mathlib.Core.Bool.{Bool}
 use mathlib.Core.List.{List}
 use lib.ListN.{take, drop, take-append-drop}
 use borrow.Author.Tests.{lt-ltb, le-ltb, ltb-true, ltb-false}
@@ -17,7 +16,7 @@ use Rattle.entries.specs.declared.header.Header.{Header}
 use Rattle.entries.specs.declared.header.Answered.{Answered}
 use Rattle.entries.specs.Part.{Stored, width, slots_of}
 use Rattle.entries.specs.Whole.{part_of, part_in, with_length, lists_in, slots_at, with_slots, header_of, entries_of, Ruled, Does, answered_with}
-use Rattle.entries.proofs.Whole.{lent_slots, lent_back, does_refuse}
+use Rattle.entries.proofs.Whole.{lent_as, lent_from, lent_back, does_refuse}
 use Rattle.request_search.specs.declared.Chosen.{Chosen}
 use Rattle.request_grants.specs.Grants.{Chooses, grant_of, entries_left, TakesOut}
 use Rattle.request_taking.specs.Takes.{taken, granted_with, AllStored}
@@ -72,19 +71,12 @@ module _ (h : Header) (ws : List ℕ) (u : Ruled h ws) (w : WhichList) (c : Chos
   abbrev slots : List Slot
   slots = slots_at w (lists_in h ws)
 
-  form : p.sorted ≡ h.sorted
-  form = ap (λ (x : Part). x.sorted) q
-
   pub lent_chooses : Chooses h.sorted slots c asked → Chooses p.sorted (slots_of p lent) c asked
-  lent_chooses x =
-      subst (λ (b : Bool). Chooses b (slots_of p lent) c asked) (sym form)
-      (subst (λ (s : List Slot). Chooses h.sorted s c asked) (sym (lent_slots h ws u w q f t)) x)
+  lent_chooses = lent_as h ws u w q f t (λ b s. Chooses b s c asked)
 
   module _ (r : Option ℕ) (after : List ℕ) (x : TakesOut p.sorted c asked (slots_of p lent) lent r after) where
     here : TakesOut h.sorted c asked slots lent r after
-    here =
-        subst (λ (s : List Slot). TakesOut h.sorted c asked s lent r after) (lent_slots h ws u w q f t)
-        (subst (λ (b : Bool). TakesOut b c asked (slots_of p lent) lent r after) form x)
+    here = lent_from h ws u w q f t (λ b s. TakesOut b c asked s lent r after) x
 
     pub does_not_take : r ≡ None → Does (taken w c asked (lists_in h ws)) ws (answered_with (without_frames 18 0) h) (put_mid from (to - from) ws after)
     does_not_take e =
