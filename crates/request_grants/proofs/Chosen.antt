@@ -24,12 +24,12 @@ use Rattle.request_search.specs.Searches.{found_of}
 use Rattle.request_search.specs.declared.Chosen.{Chosen}
 use Rattle.request_search.specs.declared.Search.TheVariants.{Chunks}
 
-abbrev chosen : ℕ → ℕ → FrameRange → Chosen
-chosen i k c = record { first = i; many = k; start = c.start; end = c.end }
+abbrev pub chosen : ℕ → ℕ → FrameRange → Chosen
+chosen i k c = record { first = i; many = k; range = c }
 
 -- the one chunk at i holds the frames
-one_chosen : (sorted : Bool) (s : List Slot) (i start end : ℕ) → Used s i → (range_at s i).start ≤ start → start ≤ end → end ≤ (range_at s i).end → Chooses sorted s (chosen i 1 (range_at s i)) start end
-one_chosen sorted s i start end u a h b = record {
+one_chosen : (sorted : Bool) (s : List Slot) (i : ℕ) (asked : FrameRange) → Used s i → (range_at s i).start ≤ asked.start → asked.start ≤ asked.end → asked.end ≤ (range_at s i).end → Chooses sorted s (chosen i 1 (range_at s i)) asked
+one_chosen sorted s i asked u a h b = record {
   some = omega arith;
   in_list = omega (arith, used_below s i u);
   one = λ e. refl;
@@ -41,9 +41,9 @@ one_chosen sorted s i start end u a h b = record {
 }
 
 -- it and the one after it do
-two_chosen : (s : List Slot) (i start end : ℕ) → Used s i → suc i < length s → (range_at s i).start ≤ start → start ≤ end → end ≤ (range_at s (suc i)).end
-    → Chooses true s (chosen i 2 (range (range_at s i).start (range_at s (suc i)).end)) start end
-two_chosen s i start end u n a h b = record {
+two_chosen : (s : List Slot) (i : ℕ) (asked : FrameRange) → Used s i → suc i < length s → (range_at s i).start ≤ asked.start → asked.start ≤ asked.end → asked.end ≤ (range_at s (suc i)).end
+    → Chooses true s (chosen i 2 (range (range_at s i).start (range_at s (suc i)).end)) asked
+two_chosen s i asked u n a h b = record {
   some = omega arith;
   in_list = omega arith;
   one = λ e. absurd (true≢false e);
@@ -59,7 +59,7 @@ unfoldable Choice : Bool → FrameRange → List Slot → Found → Type 0
 Choice sorted r s not_found = Unit {0}
 Choice sorted r s (missing f n) = Unit {0}
 Choice sorted r s too_short = Unit {0}
-Choice sorted r s (chunks i k c) = Chooses sorted s (chosen i k c) r.start r.end
+Choice sorted r s (chunks i k c) = Chooses sorted s (chosen i k c) r
 
 module _ (r : FrameRange) (s : List Slot) (h : r.start ≤ r.end) where
   early_choice : (q : Option ℕ) → Hit (λ c. leb c.start r.start && leb r.end c.end) s q → Choice false r s (in_early s q)
@@ -67,7 +67,7 @@ module _ (r : FrameRange) (s : List Slot) (h : r.start ≤ r.end) where
   early_choice None a = tt
   early_choice (Some i) a =
       let both = (and-eq-true_iff _ _).0 a.0 in
-      one_chosen false s i r.start r.end a.1 (leb-true _ _ both.0) h (leb-true _ _ both.1)
+      one_chosen false s i r a.1 (leb-true _ _ both.0) h (leb-true _ _ both.1)
 
   sorted_choice : (q : Option ℕ) → Hit (λ c. leb c.start r.start) s q → Choice true r s (in_sorted r s q)
   unfolding Choice in_sorted with_next Hit
@@ -76,11 +76,11 @@ module _ (r : FrameRange) (s : List Slot) (h : r.start ≤ r.end) where
       let from : (range_at s i).start ≤ r.start = leb-true _ _ a.0 in
       if_cases (Choice true r s) (ltb (range_at s i).end r.start) (λ e. tt)
       (λ e. if_cases (Choice true r s) (leb r.end (range_at s i).end)
-      (λ e. one_chosen true s i r.start r.end a.1 from h (leb-true _ _ e))
+      (λ e. one_chosen true s i r a.1 from h (leb-true _ _ e))
       (λ e. if_cases (Choice true r s) (leb (length s) (suc i)) (λ e. tt)
       (λ n. if_cases (Choice true r s) (eqb (range_at s (suc i)).start ((range_at s i).end + 1))
       (λ e. if_cases (Choice true r s) (leb r.end (range_at s (suc i)).end)
-      (λ e. two_chosen s i r.start r.end a.1 (leb-false _ _ n) from h (leb-true _ _ e))
+      (λ e. two_chosen s i r a.1 (leb-false _ _ n) from h (leb-true _ _ e))
       (λ e. tt))
       (λ e. tt))))
 
@@ -89,16 +89,16 @@ module _ (r : FrameRange) (s : List Slot) (h : r.start ≤ r.end) where
   find_choice true = sorted_choice _ (last_hit (λ c. leb c.start r.start) s)
   find_choice false = early_choice _ (first_hit (λ c. leb c.start r.start && leb r.end c.end) s)
 
-pub search_chooses : (sorted : Bool) (s : List Slot) (c : Chosen) (start end : ℕ) → start ≤ end
-    → find sorted (range start end) s ≡ chunks c.first c.many (range c.start c.end) → Chooses sorted s c start end
+pub search_chooses : (sorted : Bool) (s : List Slot) (c : Chosen) (asked : FrameRange) → asked.start ≤ asked.end
+    → find sorted asked s ≡ chunks c.first c.many c.range → Chooses sorted s c asked
 unfolding Choice
-search_chooses sorted s c start end h e = subst (Choice sorted (range start end) s) e (find_choice (range start end) s h sorted)
+search_chooses sorted s c asked h e = subst (Choice sorted asked s) e (find_choice asked s h sorted)
 
 -- the same, of the search's own answer
-pub found_chooses : (sorted : Bool) (s : List Slot) (c : Chosen) (start end : ℕ) → start ≤ end
-    → found_of (Chunks c) ≡ find sorted (range start end) s → Chooses sorted s c start end
+pub found_chooses : (sorted : Bool) (s : List Slot) (c : Chosen) (asked : FrameRange) → asked.start ≤ asked.end
+    → found_of (Chunks c) ≡ find sorted asked s → Chooses sorted s c asked
 unfolding found_of
-found_chooses sorted s c start end h e = search_chooses sorted s c start end h (sym e)
+found_chooses sorted s c asked h e = search_chooses sorted s c asked h (sym e)
 
 -- a chunk that is large enough for a count
 large_hit : (sorted : Bool) (n : ℕ) (s : List Slot) → Hit (λ c. leb n (size c)) s (large_enough sorted n s)
@@ -112,8 +112,8 @@ module _ (sorted : Bool) (s : List Slot) (n i : ℕ) (some : 0 < n) (e : large_e
   hit = let a = subst (Hit (λ c. leb n (size c)) s) e (large_hit sorted n s) in (leb-true n (size (range_at s i)) a.0, a.1)
 
   -- the chunk's beginning, of n frames
-  pub place_chooses : Chooses sorted s (record { first = i; many = 1; start = (range_at s i).start; end = (range_at s i).end }) (range_at s i).start ((range_at s i).start + n - 1)
-  place_chooses = one_chosen sorted s i (range_at s i).start ((range_at s i).start + n - 1) hit.1 (omega arith) (omega arith) (omega (arith, hit.0))
+  pub place_chooses : Chooses sorted s (chosen i 1 (range_at s i)) (range (range_at s i).start ((range_at s i).start + n - 1))
+  place_chooses = one_chosen sorted s i (range (range_at s i).start ((range_at s i).start + n - 1)) hit.1 (omega arith) (omega arith) (omega (arith, hit.0))
 
   pub place_low : tidy sorted s ≡ true → (range_at s i).start + n - 1 ≤ top
   place_low t = omega (arith, hit.0, low_at i s (tidy_is sorted s t).shape.sound)

@@ -7,6 +7,7 @@ use mathlib.Core.List.{List, [], ◌∷◌}
 use lib.ListN.{length}
 use lib.Dec.{ltb}
 use borrow.Author.Tests.{lt-ltb, le-ltb}
+use Rattle.memory_structs.specs.declared.range.FrameRange.{FrameRange}
 use Rattle.std.specs.Prelude.{if◌then◌else◌}
 use Rattle.memory_structs.proofs.Bools.{if_cases}
 use Rattle.model.specs.Lists.{Slot, unused, used, entries, range_at, remove, remove_one}
@@ -44,14 +45,14 @@ one_emptied (suc i) (used r ∷ s) h = omega (arith, one_emptied i s h)
 pub all_used : {s : List Slot} → Storable true s → length s ≡ length (entries s)
 all_used (sorted u h) = used_count u
 
-module _ (c : Chosen) (start end : ℕ) where
+module _ (c : Chosen) (asked : FrameRange) where
   -- the chosen chunks, taken out
-  pub taken_out : {b : Bool} {s : List Slot} → Storable b s → Chooses b s c start end → length (entries (remove b c.first c.many s)) + c.many ≡ length (entries s)
+  pub taken_out : {b : Bool} {s : List Slot} → Storable b s → Chooses b s c asked → length (entries (remove b c.first c.many s)) + c.many ≡ length (entries s)
   unfolding remove
   taken_out {s = s} (early h) chosen =
       let one : c.many ≡ 1 = chosen.one refl in
       let here : c.first + (c.many - 1) ≡ c.first = omega arith in
-      let ends : c.end ≡ (range_at s c.first).end = chosen.ends ∙ ap (λ (j : ℕ). (range_at s j).end) here in
+      let ends : c.range.end ≡ (range_at s c.first).end = chosen.ends ∙ ap (λ (j : ℕ). (range_at s j).end) here in
       ap (λ (k : ℕ). length (entries (remove false c.first k s)) + k) one
       ∙ one_emptied c.first s (omega (arith, chosen.begins, chosen.from, chosen.filled, chosen.to))
   taken_out {s = s} (sorted u h) chosen =
@@ -63,15 +64,15 @@ module _ (c : Chosen) (start end : ℕ) where
         length_removed c.first c.many s chosen.in_list,
       )
 
-  pub left_is : {b : Bool} {s : List Slot} → Storable b s → Chooses b s c start end
-      → entries_left b c start end s ≡ length (entries s) - c.many + leftover c.start start + leftover end c.end
+  pub left_is : {b : Bool} {s : List Slot} → Storable b s → Chooses b s c asked
+      → entries_left b c asked s ≡ length (entries s) - c.many + leftover c.range.start asked.start + leftover asked.end c.range.end
   unfolding entries_left entries_after
   left_is v chosen = omega (arith, taken_out v chosen)
 
 -- a table has room for both parts
-pub room_for_two : (len : ℕ) (ws : List ℕ) (c : Chosen) (start end : ℕ) → len ≤ 512 → Chooses true (table_slots len ws) c start end → c.start < start → end < c.end
-    → entries_left true c start end (table_slots len ws) ≤ 512 → len + 2 ≤ c.many + 512
-room_for_two len ws c start end h chosen p q few =
+pub room_for_two : (len : ℕ) (ws : List ℕ) (c : Chosen) (asked : FrameRange) → len ≤ 512 → Chooses true (table_slots len ws) c asked → c.range.start < asked.start → asked.end < c.range.end
+    → entries_left true c asked (table_slots len ws) ≤ 512 → len + 2 ≤ c.many + 512
+room_for_two len ws c asked h chosen p q few =
     let s : List Slot = table_slots len ws in
     let v : Storable true s = sorted (table_used len ws) (omega (arith, table_length len ws)) in
-    omega (arith, left_is c start end v chosen, one_leftover c.start start p, one_leftover end c.end q, taken_out c start end v chosen, all_used v, table_length len ws)
+    omega (arith, left_is c asked v chosen, one_leftover c.range.start asked.start p, one_leftover asked.end c.range.end q, taken_out c asked v chosen, all_used v, table_length len ws)

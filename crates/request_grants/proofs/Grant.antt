@@ -34,69 +34,69 @@ module _ (b : Bool) (c r : FrameRange) (s : List Slot) where
   unfolding put_after
   none_after h = rw (le-ltb r.end c.end h)
 
-module _ (s : List Slot) (c : Chosen) (start end : ℕ) (spaced : Spaced 0 s) (chosen : Chooses true s c start end) where
-  below : (n : ℕ) → c.start ≤ n → Under n (take c.first s)
+module _ (s : List Slot) (c : Chosen) (asked : FrameRange) (spaced : Spaced 0 s) (chosen : Chooses true s c asked) where
+  below : (n : ℕ) → c.range.start ≤ n → Under n (take c.first s)
   below n h = slots_before 0 c.first n s spaced (omega (arith, chosen.some, chosen.in_list)) (omega (arith, chosen.begins))
 
-  above : Spaced (c.end + 1) (drop (c.first + c.many) s)
+  above : Spaced (c.range.end + 1) (drop (c.first + c.many) s)
   above =
       let last : ℕ = c.first + (c.many - 1) in
       let same : last + 1 ≡ c.first + c.many = omega (arith, chosen.some) in
-      let ends : (range_at s last).end + 1 ≡ c.end + 1 = omega (arith, chosen.ends) in
+      let ends : (range_at s last).end + 1 ≡ c.range.end + 1 = omega (arith, chosen.ends) in
       subst (λ (m : ℕ). Spaced m (drop (c.first + c.many) s)) ends
       (subst (λ (n : ℕ). Spaced ((range_at s last).end + 1) (drop n s)) same
       (slots_after 0 last s spaced (omega (arith, chosen.some, chosen.in_list))))
 
   -- one range goes in where the chunks stood, and a second one after it
-  pub put_one : (x : FrameRange) → c.start ≤ x.start → x.start ≤ c.end → insert_sorted x (remove true c.first c.many s) ≡ instead c.first c.many (used x ∷ []) s
+  pub put_one : (x : FrameRange) → c.range.start ≤ x.start → x.start ≤ c.range.end → insert_sorted x (remove true c.first c.many s) ≡ instead c.first c.many (used x ∷ []) s
   unfolding instead
   put_one x p q =
       ap (insert_sorted x) (remove_run c.first c.many s)
       ∙ insert_past x (take c.first s) (drop (c.first + c.many) s) (below x.start p)
-      ∙ ap (λ (l : List Slot). take c.first s ++ l) (insert_front x (c.end + 1) (drop (c.first + c.many) s) above (omega arith))
+      ∙ ap (λ (l : List Slot). take c.first s ++ l) (insert_front x (c.range.end + 1) (drop (c.first + c.many) s) above (omega arith))
 
-  pub put_two : (x y : FrameRange) → c.start ≤ y.start → x.start ≤ y.start → y.start ≤ c.end
+  pub put_two : (x y : FrameRange) → c.range.start ≤ y.start → x.start ≤ y.start → y.start ≤ c.range.end
       → insert_sorted y (instead c.first c.many (used x ∷ []) s) ≡ instead c.first c.many (used x ∷ used y ∷ []) s
   unfolding instead Under
   put_two x y p h q =
       let rest : List Slot = drop (c.first + c.many) s in
       insert_past y (take c.first s) (used x ∷ rest) (below y.start p)
       ∙ ap (λ (l : List Slot). take c.first s ++ l)
-      (insert_past y (used x ∷ []) rest (h, tt) ∙ ap (λ (l : List Slot). used x ∷ l) (insert_front y (c.end + 1) rest above (omega arith)))
+      (insert_past y (used x ∷ []) rest (h, tt) ∙ ap (λ (l : List Slot). used x ∷ l) (insert_front y (c.range.end + 1) rest above (omega arith)))
 
   abbrev chunk : FrameRange
-  chunk = range c.start c.end
+  chunk = c.range
 
   abbrev request : FrameRange
-  request = range start end
+  request = asked
 
   abbrev removed : List Slot
   removed = remove true c.first c.many s
 
   -- the four cases
-  pub grant_none : start ≤ c.start → c.end ≤ end → grant_of true c start end s ≡ remove true c.first c.many s
+  pub grant_none : asked.start ≤ c.range.start → c.range.end ≤ asked.end → grant_of true c asked s ≡ remove true c.first c.many s
   unfolding grant_of grant_from
   grant_none p q = none_after true chunk request (put_before true chunk request removed) q ∙ none_before true chunk request removed p
 
-  pub grant_before : c.start < start → c.end ≤ end → grant_of true c start end s ≡ instead c.first c.many (used (range c.start (start - 1)) ∷ []) s
+  pub grant_before : c.range.start < asked.start → c.range.end ≤ asked.end → grant_of true c asked s ≡ instead c.first c.many (used (range c.range.start (asked.start - 1)) ∷ []) s
   unfolding grant_of grant_from insert
   grant_before p q =
       none_after true chunk request (put_before true chunk request removed) q
       ∙ some_before true chunk request removed p
-      ∙ put_one (range c.start (start - 1)) (omega arith) (omega (arith, chosen.from, chosen.filled, chosen.to))
+      ∙ put_one (range c.range.start (asked.start - 1)) (omega arith) (omega (arith, chosen.from, chosen.filled, chosen.to))
 
-  pub grant_after : start ≤ c.start → end < c.end → grant_of true c start end s ≡ instead c.first c.many (used (range (end + 1) c.end) ∷ []) s
+  pub grant_after : asked.start ≤ c.range.start → asked.end < c.range.end → grant_of true c asked s ≡ instead c.first c.many (used (range (asked.end + 1) c.range.end) ∷ []) s
   unfolding grant_of grant_from insert
   grant_after p q =
       some_after true chunk request (put_before true chunk request removed) q
-      ∙ ap (insert_sorted (range (end + 1) c.end)) (none_before true chunk request removed p)
-      ∙ put_one (range (end + 1) c.end) (omega (arith, chosen.from, chosen.filled)) (omega arith)
+      ∙ ap (insert_sorted (range (asked.end + 1) c.range.end)) (none_before true chunk request removed p)
+      ∙ put_one (range (asked.end + 1) c.range.end) (omega (arith, chosen.from, chosen.filled)) (omega arith)
 
-  pub grant_both : c.start < start → end < c.end
-      → grant_of true c start end s ≡ instead c.first c.many (used (range c.start (start - 1)) ∷ used (range (end + 1) c.end) ∷ []) s
+  pub grant_both : c.range.start < asked.start → asked.end < c.range.end
+      → grant_of true c asked s ≡ instead c.first c.many (used (range c.range.start (asked.start - 1)) ∷ used (range (asked.end + 1) c.range.end) ∷ []) s
   unfolding grant_of grant_from insert
   grant_both p q =
       some_after true chunk request (put_before true chunk request removed) q
-      ∙ ap (insert_sorted (range (end + 1) c.end))
-      (some_before true chunk request removed p ∙ put_one (range c.start (start - 1)) (omega arith) (omega (arith, chosen.filled, chosen.to)))
-      ∙ put_two (range c.start (start - 1)) (range (end + 1) c.end) (omega (arith, chosen.filled)) (omega (arith, chosen.filled)) (omega arith)
+      ∙ ap (insert_sorted (range (asked.end + 1) c.range.end))
+      (some_before true chunk request removed p ∙ put_one (range c.range.start (asked.start - 1)) (omega arith) (omega (arith, chosen.filled, chosen.to)))
+      ∙ put_two (range c.range.start (asked.start - 1)) (range (asked.end + 1) c.range.end) (omega (arith, chosen.filled)) (omega (arith, chosen.filled)) (omega arith)

@@ -76,14 +76,14 @@ module _ (len i : ℕ) (r : FrameRange) (ws after : List ℕ) (t : IsTable len w
         left
 
 -- a single pair, rewritten as the part before: the part after goes in next to it
-module _ (len : ℕ) (c : Chosen) (start end : ℕ) (ws after : List ℕ) (t : IsTable len ws) (tidied : tidy true (table_slots len ws) ≡ true)
-    (chosen : Chooses true (table_slots len ws) c start end) (p : c.start < start) (q : end < c.end) (single : c.many ≡ 1)
-    (w : after ≡ table_words (replace_at c.first (range c.start (start - 1)) (table_slots len ws))) where
+module _ (len : ℕ) (c : Chosen) (asked : FrameRange) (ws after : List ℕ) (t : IsTable len ws) (tidied : tidy true (table_slots len ws) ≡ true)
+    (chosen : Chooses true (table_slots len ws) c asked) (p : c.range.start < asked.start) (q : asked.end < c.range.end) (single : c.many ≡ 1)
+    (w : after ≡ table_words (replace_at c.first (range c.range.start (asked.start - 1)) (table_slots len ws))) where
   abbrev before : FrameRange
-  before = range c.start (start - 1)
+  before = range c.range.start (asked.start - 1)
 
   abbrev rest : FrameRange
-  rest = range (end + 1) c.end
+  rest = range (asked.end + 1) c.range.end
 
   abbrev slots : List Slot
   slots = table_slots len ws
@@ -98,7 +98,7 @@ module _ (len : ℕ) (c : Chosen) (start end : ℕ) (ws after : List ℕ) (t : I
   unfolding slotted insert
   still_rising =
       ap (rising 0)
-      (stands ∙ sym (put_one slots c start end (tidy_spaced slots tidied) chosen before (omega arith) (omega (arith, chosen.filled))))
+      (stands ∙ sym (put_one slots c asked (tidy_spaced slots tidied) chosen before (omega arith) (omega (arith, chosen.filled))))
       ∙ inserted_slotted true before (remove true c.first c.many slots)
       (removed_slotted true c.first c.many slots (tidy_rising slots tidied))
 
@@ -109,5 +109,5 @@ module _ (len : ℕ) (c : Chosen) (start end : ℕ) (ws after : List ℕ) (t : I
       (omega (arith, chosen.in_list, table_length len ws))
       (insert_sorted rest (table_slots len after))
       (ap (insert_sorted rest) stands
-      ∙ put_two slots c start end (tidy_spaced slots tidied) chosen before rest (omega (arith, chosen.filled)) (omega (arith, chosen.filled)) (omega arith))
+      ∙ put_two slots c asked (tidy_spaced slots tidied) chosen before rest (omega (arith, chosen.filled)) (omega (arith, chosen.filled)) (omega arith))
       e

@@ -20,15 +20,15 @@ use Rattle.pairs.proofs.Slots.{slots_again, are_pairs}
 use Rattle.request_search.specs.declared.Chosen.{Chosen}
 use Rattle.request_grants.specs.Grants.{Chooses, grant_of}
 
-module _ (ws : List ℕ) (c : Chosen) (start end : ℕ) (tidied : tidy false (pair_slots 32 ws) ≡ true) (chosen : Chooses false (pair_slots 32 ws) c start end) where
+module _ (ws : List ℕ) (c : Chosen) (asked : FrameRange) (tidied : tidy false (pair_slots 32 ws) ≡ true) (chosen : Chooses false (pair_slots 32 ws) c asked) where
   abbrev slots : List Slot
   slots = pair_slots 32 ws
 
   abbrev chunk : FrameRange
-  chunk = range c.start c.end
+  chunk = c.range
 
   abbrev request : FrameRange
-  request = range start end
+  request = asked
 
   abbrev emptied : List Slot
   emptied = remove false c.first 1 slots
@@ -39,7 +39,7 @@ module _ (ws : List ℕ) (c : Chosen) (start end : ℕ) (tidied : tidy false (pa
   shape : Shape false slots
   shape = (tidy_is false slots tidied).shape
 
-  low : c.end ≤ top
+  low : c.range.end ≤ top
   low = omega (arith, chosen.ends, low_at (c.first + (c.many - 1)) slots shape.sound)
 
   empty_shape : Shape false emptied
@@ -49,11 +49,11 @@ module _ (ws : List ℕ) (c : Chosen) (start end : ℕ) (tidied : tidy false (pa
   before_shape : Shape false with_before
   unfolding put_before
   before_shape =
-      if_cases (Shape false) (ltb c.start start)
-      (λ e. insert_shape false (range c.start (start - 1)) emptied (record { filled = omega (arith, ltb-true c.start start e); low = omega (arith, low, chosen.filled, chosen.to) }) empty_shape)
+      if_cases (Shape false) (ltb c.range.start asked.start)
+      (λ e. insert_shape false (range c.range.start (asked.start - 1)) emptied (record { filled = omega (arith, ltb-true c.range.start asked.start e); low = omega (arith, low, chosen.filled, chosen.to) }) empty_shape)
       (λ e. empty_shape)
 
-  granted : put_after false chunk request with_before ≡ grant_of false c start end slots
+  granted : put_after false chunk request with_before ≡ grant_of false c asked slots
   unfolding grant_of grant_from
   granted = ap (λ (k : ℕ). put_after false chunk request (put_before false chunk request (remove false c.first k slots))) (sym (chosen.one refl))
 
@@ -68,7 +68,7 @@ module _ (ws : List ℕ) (c : Chosen) (start end : ℕ) (tidied : tidy false (pa
       pub pairs_before : IsPairs w₂
       pairs_before = are_pairs with_before before_shape second
 
-      pub all_steps : {w₃ : List ℕ} → w₃ ≡ slot_words (put_after false chunk request (pair_slots 32 w₂)) → w₃ ≡ slot_words (grant_of false c start end slots)
+      pub all_steps : {w₃ : List ℕ} → w₃ ≡ slot_words (put_after false chunk request (pair_slots 32 w₂)) → w₃ ≡ slot_words (grant_of false c asked slots)
       all_steps e =
           e
           ∙ ap (λ (s : List Slot). slot_words (put_after false chunk request s)) (ap (pair_slots 32) second ∙ slots_again with_before before_shape)

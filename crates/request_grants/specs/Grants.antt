@@ -1,45 +1,39 @@
 -- A grant from chosen chunks. The words in quotes are document 01's.
-use Rattle.std.specs.Prelude.{ℕ, ◌+◌, ◌-◌, ◌≤◌, ◌<◌, ◌≡◌, Bool, false, not, List, ◌++◌, length, take, drop, ltb}
-use Rattle.std.specs.Prelude.{if◌then◌else◌}
-use Rattle.memory_structs.specs.Range.{range}
+use Rattle.std.specs.Prelude.{ℕ, ◌+◌, ◌-◌, ◌≤◌, ◌<◌, ◌≡◌, Bool, true, false, List, Option, Some, None, ◌++◌, length, take, drop, ltb}
+use Rattle.memory_structs.specs.declared.range.FrameRange.{FrameRange}
 use Rattle.model.specs.Lists.{Slot, range_at, bound}
 use Rattle.model.specs.Requests.{grant_from, entries_after}
 use Rattle.model.specs.Store.{table_words}
 use Rattle.entries.specs.Part.{Stored}
 use Rattle.request_search.specs.declared.Chosen.{Chosen}
-use Rattle.request_grants.specs.declared.Taken.{Taken}
 
 -- the chunks stand in the list from `first` on, and the request lies in the range from the start of the first to the end of the last.
 -- So the chunk of an early list is in use: an unused slot has no frame, and the request has one.
-pub record Chooses (sorted : Bool) (s : List Slot) (c : Chosen) (start end : ℕ) : Type 0 where
+pub record Chooses (sorted : Bool) (s : List Slot) (c : Chosen) (asked : FrameRange) : Type 0 where
   pub some : 0 < c.many
   pub in_list : c.first + c.many ≤ length s
   pub one : sorted ≡ false → c.many ≡ 1
-  pub begins : c.start ≡ (range_at s c.first).start
-  pub ends : c.end ≡ (range_at s (c.first + (c.many - 1))).end
-  pub from : c.start ≤ start
-  pub filled : start ≤ end
-  pub to : end ≤ c.end
+  pub begins : c.range.start ≡ (range_at s c.first).start
+  pub ends : c.range.end ≡ (range_at s (c.first + (c.many - 1))).end
+  pub from : c.range.start ≤ asked.start
+  pub filled : asked.start ≤ asked.end
+  pub to : asked.end ≤ c.range.end
 
 -- the list after the grant, and how many entries it has
-unfoldable pub grant_of : Bool → Chosen → ℕ → ℕ → List Slot → List Slot
-grant_of sorted c start end s = grant_from sorted c.first c.many (range c.start c.end) (range start end) s
+unfoldable pub grant_of : Bool → Chosen → FrameRange → List Slot → List Slot
+grant_of sorted c asked s = grant_from sorted c.first c.many c.range asked s
 
-unfoldable pub entries_left : Bool → Chosen → ℕ → ℕ → List Slot → ℕ
-entries_left sorted c start end s = entries_after sorted c.first c.many (range c.start c.end) (range start end) s
+unfoldable pub entries_left : Bool → Chosen → FrameRange → List Slot → ℕ
+entries_left sorted c asked s = entries_after sorted c.first c.many c.range asked s
 
 -- 18, of one list: "after the call a list would hold more than 32 (early) or 512 (sorted) entries"
-abbrev pub overfull : Bool → Chosen → ℕ → ℕ → List Slot → Bool
-overfull sorted c start end s = ltb (bound sorted) (entries_left sorted c start end s)
+abbrev pub overfull : Bool → Chosen → FrameRange → List Slot → Bool
+overfull sorted c asked s = ltb (bound sorted) (entries_left sorted c asked s)
 
--- the list after a request: 18 leaves it as it is
-unfoldable pub after_grant : Bool → Chosen → ℕ → ℕ → List Slot → List Slot
-after_grant sorted c start end s = if overfull sorted c start end s then s else grant_of sorted c start end s
-
--- the list says whether it had a place for what is left over, and stores what the model says
-pub record TakesOut (sorted : Bool) (c : Chosen) (start end : ℕ) (s : List Slot) (r : Taken) (after : List ℕ) : Type 0 where
-  pub placed : r.placed ≡ not (overfull sorted c start end s)
-  pub stored : Stored sorted (after_grant sorted c start end s) r.len after
+-- the list without a place for what is left over stays as it is; else it stores the grant, and answers its length
+abbrev pub TakesOut : Bool → Chosen → FrameRange → List Slot → List ℕ → Option ℕ → List ℕ → Type 0
+TakesOut sorted c asked s before None after = (overfull sorted c asked s ≡ true) × (after ≡ before)
+TakesOut sorted c asked s before (Some n) after = (overfull sorted c asked s ≡ false) × Stored sorted (grant_of sorted c asked s) n after
 
 -- new slots in the place of the k slots from i on
 unfoldable pub instead : ℕ → ℕ → List Slot → List Slot → List Slot

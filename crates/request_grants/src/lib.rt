@@ -10,49 +10,37 @@ ghost use Rattle.model.specs.Rules.{tidy};
 ghost use Rattle.model.specs.Store.{table_slots, slot_words};
 ghost use Rattle.tables.specs.Words.{IsTable};
 ghost use Rattle.pairs.specs.Pairs.{pair_slots, IsPairs};
-ghost use Rattle.entries.specs.Part.{IsPart, slots_in, Stored};
+ghost use Rattle.entries.specs.Part.{slots_of, Holds, IsTidy, Stored};
 ghost use Rattle.request_grants.specs.Grants.{Chooses, grant_of, entries_left, TakesOut, instead, TableOf};
 
+use entries::Part;
 use memory_structs::FrameRange;
 use request_search::Chosen;
 
-// Whether the list had a place for what is left over, and its length after the grant; without a place it is as it was.
-#[derive(Clone, Copy)]
-pub struct Taken {
-    pub placed: bool,
-    pub len: usize,
-}
-
-// The frames of `asked` leave the chunks that hold them. What is left over has no place where "after the call a list would hold more than
-// 32 (early) or 512 (sorted) entries".
-pub fn take(sorted: bool, len: usize, t: &mut [u64], chosen: Chosen, asked: FrameRange) -> Taken
-    requires part { IsPart sorted len t.old }
-    requires t_value { tidy sorted (slots_in sorted len t.old) ≡ true }
-    requires chooses { Chooses sorted (slots_in sorted len t.old) chosen asked.start asked.end }
-    ensures { TakesOut sorted chosen asked.start asked.end (slots_in sorted len t.old) result t.new }
+// The frames of `asked` leave the chunks that hold them; the answer is the list's length after that. What is left over has no place, and
+// the list stays as it is, where "after the call a list would hold more than 32 (early) or 512 (sorted) entries".
+pub fn take(part: Part, t: &mut [u64], chosen: Chosen, asked: FrameRange) -> Option<usize>
+    requires tidy { IsTidy part t.old }
+    requires chooses { Chooses part.sorted (slots_of part t.old) chosen asked }
+    ensures { TakesOut part.sorted chosen asked (slots_of part t.old) t.old result t.new }
 {
-    let entries = entries_after(sorted, len, t, chosen, asked);
-    if entries::bound(sorted) < entries {
-        return Taken { placed: false, len };
+    if part.bound() < entries_after(part, t, chosen, asked) {
+        return None;
     }
-    let after = allocate_from_chosen_chunk(sorted, len, t, chosen, asked);
-    Taken {
-        placed: true,
-        len: after,
-    }
+    Some(allocate_from_chosen_chunk(part, t, chosen, asked))
 }
 
 // How many entries the list has after the grant.
-fn entries_after(sorted: bool, len: usize, t: &[u64], chosen: Chosen, asked: FrameRange) -> usize
-    requires part { IsPart sorted len t.now }
-    requires chooses { Chooses sorted (slots_in sorted len t.now) chosen asked.start asked.end }
-    ensures { result ≡ entries_left sorted chosen asked.start asked.end (slots_in sorted len t.now) }
+fn entries_after(part: Part, t: &[u64], chosen: Chosen, asked: FrameRange) -> usize
+    requires part { Holds part t.now }
+    requires chooses { Chooses part.sorted (slots_of part t.now) chosen asked }
+    ensures { result ≡ entries_left part.sorted chosen asked (slots_of part t.now) }
 {
-    let mut n = entries::count(sorted, len, t) - chosen.many;
-    if chosen.start != asked.start {
+    let mut n = part.count(t) - chosen.many;
+    if chosen.range.start != asked.start {
         n += 1;
     }
-    if chosen.end != asked.end {
+    if chosen.range.end != asked.end {
         n += 1;
     }
     n
@@ -60,31 +48,29 @@ fn entries_after(sorted: bool, len: usize, t: &[u64], chosen: Chosen, asked: Fra
 
 // "Leftovers go back in the same call, before first, then after, unmerged." The answer is the length after that.
 pub fn allocate_from_chosen_chunk(
-    sorted: bool,
-    len: usize,
+    part: Part,
     t: &mut [u64],
     chosen: Chosen,
     asked: FrameRange,
 ) -> usize
-    requires part { IsPart sorted len t.old }
-    requires t_value { tidy sorted (slots_in sorted len t.old) ≡ true }
-    requires chooses { Chooses sorted (slots_in sorted len t.old) chosen asked.start asked.end }
-    requires t_bound { entries_left sorted chosen asked.start asked.end (slots_in sorted len t.old) ≤ bound sorted }
-    ensures { Stored sorted (grant_of sorted chosen asked.start asked.end (slots_in sorted len t.old)) result t.new }
+    requires tidy { IsTidy part t.old }
+    requires chooses { Chooses part.sorted (slots_of part t.old) chosen asked }
+    requires t_bound { entries_left part.sorted chosen asked (slots_of part t.old) ≤ bound part.sorted }
+    ensures { Stored part.sorted (grant_of part.sorted chosen asked (slots_of part t.old)) result t.new }
 {
-    if sorted {
-        return allocate_from_table(t, len, chosen, asked);
+    if part.sorted {
+        return allocate_from_table(t, part.len, chosen, asked);
     }
     allocate_from_slots(t, chosen, asked);
-    len
+    part.len
 }
 
 // The chosen slot is emptied; each leftover takes the first slot that is not used.
 fn allocate_from_slots(t: &mut [u64], chosen: Chosen, asked: FrameRange)
     requires pairs { IsPairs t.old }
     requires t_value { tidy false (pair_slots 32 t.old) ≡ true }
-    requires chooses { Chooses false (pair_slots 32 t.old) chosen asked.start asked.end }
-    ensures { t.new ≡ slot_words (grant_of false chosen asked.start asked.end (pair_slots 32 t.old)) }
+    requires chooses { Chooses false (pair_slots 32 t.old) chosen asked }
+    ensures { t.new ≡ slot_words (grant_of false chosen asked (pair_slots 32 t.old)) }
 {
     pairs::empty_slot(t, chosen.first);
     put_before(t, chosen, asked);
@@ -94,20 +80,34 @@ fn allocate_from_slots(t: &mut [u64], chosen: Chosen, asked: FrameRange)
 // The part before goes in, where there is one.
 fn put_before(t: &mut [u64], chosen: Chosen, asked: FrameRange)
     requires { IsPairs t.old }
-    ensures { t.new ≡ slot_words (put_before false (range chosen.start chosen.end) (range asked.start asked.end) (pair_slots 32 t.old)) }
+    ensures { t.new ≡ slot_words (put_before false chosen.range asked (pair_slots 32 t.old)) }
 {
-    if chosen.start < asked.start {
-        pairs::insert(t, chosen.start, asked.start - 1);
+    if chosen.range.start < asked.start {
+        let last = asked.start - 1;
+        pairs::insert(
+            t,
+            FrameRange {
+                start: chosen.range.start,
+                end: last,
+            },
+        );
     }
 }
 
 // The same of the part after.
 fn put_after(t: &mut [u64], chosen: Chosen, asked: FrameRange)
     requires { IsPairs t.old }
-    ensures { t.new ≡ slot_words (put_after false (range chosen.start chosen.end) (range asked.start asked.end) (pair_slots 32 t.old)) }
+    ensures { t.new ≡ slot_words (put_after false chosen.range asked (pair_slots 32 t.old)) }
 {
-    if asked.end < chosen.end {
-        pairs::insert(t, asked.end + 1, chosen.end);
+    if asked.end < chosen.range.end {
+        let first = asked.end + 1;
+        pairs::insert(
+            t,
+            FrameRange {
+                start: first,
+                end: chosen.range.end,
+            },
+        );
     }
 }
 
@@ -115,26 +115,26 @@ fn put_after(t: &mut [u64], chosen: Chosen, asked: FrameRange)
 pub fn allocate_from_table(t: &mut [u64], len: usize, chosen: Chosen, asked: FrameRange) -> usize
     requires table { IsTable len t.old }
     requires t_value { tidy true (table_slots len t.old) ≡ true }
-    requires chooses { Chooses true (table_slots len t.old) chosen asked.start asked.end }
-    requires t_bound { entries_left true chosen asked.start asked.end (table_slots len t.old) ≤ 512 }
-    ensures { TableOf (grant_of true chosen asked.start asked.end (table_slots len t.old)) result t.new }
+    requires chooses { Chooses true (table_slots len t.old) chosen asked }
+    requires t_bound { entries_left true chosen asked (table_slots len t.old) ≤ 512 }
+    ensures { TableOf (grant_of true chosen asked (table_slots len t.old)) result t.new }
 {
-    if chosen.start == asked.start {
-        if chosen.end == asked.end {
+    if chosen.range.start == asked.start {
+        if chosen.range.end == asked.end {
             tables::remove_at(t, len, chosen.first, chosen.many);
             return len - chosen.many;
         }
         let above = asked.end + 1;
         let left = FrameRange {
             start: above,
-            end: chosen.end,
+            end: chosen.range.end,
         };
         return leave_one(t, len, chosen.first, chosen.many, left);
     }
-    if chosen.end == asked.end {
+    if chosen.range.end == asked.end {
         let below = asked.start - 1;
         let left = FrameRange {
-            start: chosen.start,
+            start: chosen.range.start,
             end: below,
         };
         return leave_one(t, len, chosen.first, chosen.many, left);
@@ -146,9 +146,9 @@ pub fn allocate_from_table(t: &mut [u64], len: usize, chosen: Chosen, asked: Fra
 fn leave_one(t: &mut [u64], len: usize, first: usize, many: usize, left: FrameRange) -> usize
     requires table { IsTable len t.old }
     requires many_nonzero { (0 < many) × (first + many ≤ len) }
-    ensures { TableOf (instead first many (used (range left.start left.end) ∷ []) (table_slots len t.old)) result t.new }
+    ensures { TableOf (instead first many (used left ∷ []) (table_slots len t.old)) result t.new }
 {
-    tables::replace_at(t, len, first, left.start, left.end);
+    tables::replace_at(t, len, first, left);
     if many == 1 {
         return len;
     }
@@ -160,19 +160,24 @@ fn leave_one(t: &mut [u64], len: usize, first: usize, many: usize, left: FrameRa
 fn leave_two(t: &mut [u64], len: usize, chosen: Chosen, asked: FrameRange) -> usize
     requires table { IsTable len t.old }
     requires t_value { tidy true (table_slots len t.old) ≡ true }
-    requires chooses { Chooses true (table_slots len t.old) chosen asked.start asked.end }
-    requires start_lt_start { (chosen.start < asked.start) × (asked.end < chosen.end) × (len + 2 ≤ chosen.many + 512) }
-    ensures { TableOf (instead chosen.first chosen.many (used (range chosen.start (asked.start - 1)) ∷ used (range (asked.end + 1) chosen.end) ∷ []) (table_slots len t.old)) result t.new }
+    requires chooses { Chooses true (table_slots len t.old) chosen asked }
+    requires start_lt_start { (chosen.range.start < asked.start) × (asked.end < chosen.range.end) × (len + 2 ≤ chosen.many + 512) }
+    ensures { TableOf (instead chosen.first chosen.many (used (range chosen.range.start (asked.start - 1)) ∷ used (range (asked.end + 1) chosen.range.end) ∷ []) (table_slots len t.old)) result t.new }
 {
-    tables::replace_at(t, len, chosen.first, chosen.start, asked.start - 1);
+    let last = asked.start - 1;
+    let before = FrameRange {
+        start: chosen.range.start,
+        end: last,
+    };
+    let first = asked.end + 1;
+    let after = FrameRange {
+        start: first,
+        end: chosen.range.end,
+    };
+    tables::replace_at(t, len, chosen.first, before);
     if chosen.many == 1 {
-        tables::insert(t, len, asked.end + 1, chosen.end);
+        tables::insert(t, len, after);
         return len + 1;
     }
-    let rest = asked.end + 1;
-    let left = FrameRange {
-        start: rest,
-        end: chosen.end,
-    };
-    leave_one(t, len, chosen.first + 1, chosen.many - 1, left)
+    leave_one(t, len, chosen.first + 1, chosen.many - 1, after)
 }

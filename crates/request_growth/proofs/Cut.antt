@@ -50,7 +50,7 @@ stored_over l m a e ws =
     let u : drop (four (width l.sorted)) (entries_of m ws) ≡ drop (four (width l.sorted)) ws = subst (λ (c : Bool). drop (four (width c)) (entries_of m ws) ≡ drop (four (width c)) ws) (sym e) t in
     ap (λ (x : List ℕ). part_words l.sorted l.general_free ++ (part_words l.sorted l.reserved_free ++ (part_words l.sorted l.general_regions ++ (part_words l.sorted l.reserved_regions ++ x)))) u
 
-module _ (h : Header) (ws : List ℕ) (u : Ruled h ws) (from start end : ℕ) (m : find (lists_in h ws).sorted (range start end) (lists_in h ws).reserved_free ≡ missing from ((end + 1) - from)) where
+module _ (h : Header) (ws : List ℕ) (u : Ruled h ws) (from : ℕ) (asked : FrameRange) (m : find (lists_in h ws).sorted asked (lists_in h ws).reserved_free ≡ missing from ((asked.end + 1) - from)) where
   abbrev l : Lists
   l = lists_in h ws
 
@@ -58,22 +58,22 @@ module _ (h : Header) (ws : List ℕ) (u : Ruled h ws) (from start end : ℕ) (m
   s = (lists_in h ws).reserved_free
 
   abbrev r : FrameRange
-  r = range start end
+  r = asked
 
   abbrev g : FrameRange
-  g = range from end
+  g = range from asked.end
 
   lawful : Lawful l
   lawful = rules_lawful (lists_in h ws) u.keeps
 
   pub in_sorted_holds : l.sorted ≡ true
-  in_sorted_holds = missing_sorted l r from ((end + 1) - from) lawful m
+  in_sorted_holds = missing_sorted l r from ((asked.end + 1) - from) lawful m
 
   tidied : tidy true s ≡ true
   tidied = subst (λ (b : Bool). tidy b s ≡ true) in_sorted_holds (tidy_chunks h ws u)
 
   -- the tail has a frame
-  pub tail_filled : from ≤ end
+  pub tail_filled : from ≤ asked.end
   unfolding Fit
   tail_filled = let fit = subst (Fit l.sorted r s) m (find_fit l.sorted r s lawful.shape_rf) in omega (arith, fit.2)
 
@@ -81,8 +81,8 @@ module _ (h : Header) (ws : List ℕ) (u : Ruled h ws) (from start end : ℕ) (m
   unfolding Fit
   tail =
       let fit = subst (Fit l.sorted r s) m (find_fit l.sorted r s lawful.shape_rf) in
-      let last : from + ((end + 1) - from) - 1 ≡ end = omega (arith, fit.2) in
-      subst (λ (n : ℕ). TailGrown r s (range from n)) last (tail_grown r s from ((end + 1) - from) tidied (subst (λ (b : Bool). find b r s ≡ missing from ((end + 1) - from)) in_sorted_holds m))
+      let last : from + ((asked.end + 1) - from) - 1 ≡ asked.end = omega (arith, fit.2) in
+      subst (λ (n : ℕ). TailGrown r s (range from n)) last (tail_grown r s from ((asked.end + 1) - from) tidied (subst (λ (b : Bool). find b r s ≡ missing from ((asked.end + 1) - from)) in_sorted_holds m))
 
   storable : Storable true s
   storable = subst (λ (b : Bool). Storable b s) in_sorted_holds (storables l lawful).reserved_free
@@ -101,18 +101,18 @@ module _ (h : Header) (ws : List ℕ) (u : Ruled h ws) (from start end : ℕ) (m
 
   -- the last chunk, cut
   module _ (c : Chosen) (k : LastChunk s c) where
-    pub cut_chooses : Chooses l.sorted s c start c.end
-    cut_chooses = subst (λ (b : Bool). Chooses b s c start c.end) (sym in_sorted_holds) (tail_chooses s r g tidied tail c k)
+    pub cut_chooses : Chooses l.sorted s c (range asked.start c.range.end)
+    cut_chooses = subst (λ (b : Bool). Chooses b s c (range asked.start c.range.end)) (sym in_sorted_holds) (tail_chooses s r g tidied tail c k)
 
-    pub cut_fits : entries_left l.sorted c start c.end s ≤ bound l.sorted
+    pub cut_fits : entries_left l.sorted c (range asked.start c.range.end) s ≤ bound l.sorted
     cut_fits =
-        subst (λ (b : Bool). entries_left b c start c.end s ≤ bound b) (sym in_sorted_holds) (tail_left s r g tidied tail c k (tidy_is true s tidied).few storable)
+        subst (λ (b : Bool). entries_left b c (range asked.start c.range.end) s ≤ bound b) (sym in_sorted_holds) (tail_left s r g tidied tail c k (tidy_is true s tidied).few storable)
 
     abbrev cut : Lists
-    cut = with_slots ReservedFree l (grant_of l.sorted c start c.end s)
+    cut = with_slots ReservedFree l (grant_of l.sorted c (range asked.start c.range.end) s)
 
     cut_is_lawful : Lawful cut
-    cut_is_lawful = cut_lawful l c start c.end lawful cut_chooses k.one k.is cut_fits
+    cut_is_lawful = cut_lawful l c (range asked.start c.range.end) lawful cut_chooses k.one k.is cut_fits
 
     module _ {b : Header} {mid : List ℕ} (x : AllStored cut ws b mid) where
       pub cut_ruled : Ruled b mid

@@ -1,7 +1,6 @@
--- Growth: the numbers that refuse it, and growth by the whole request.
+-- Growth: what refuses it, and growth by the whole request.
 use Prim.Native.Nat.{ℕ, ◌+◌, ◌-◌, ◌≤◌, ◌<◌}
-use native.Mathlib.Omega.{arith}
-use mathlib.Core.Path.{◌≡◌, refl, sym, ap, subst, ◌∙◌}
+use mathlib.Core.Path.{◌≡◌, refl, ap, subst, ◌∙◌}
 use mathlib.Core.Bool.{Bool, true, false, not, ◌&&◌}
 use mathlib.Core.List.{List}
 use lib.Dec.{leb}
@@ -19,13 +18,18 @@ use Rattle.model.proofs.Ruled.{is_slotted, tidy_is}
 use Rattle.entries.specs.declared.header.Header.{Header}
 use Rattle.entries.specs.declared.header.WhichList.{WhichList}
 use Rattle.entries.specs.declared.header.WhichList.TheVariants.{ReservedFree, ReservedRegions}
-use Rattle.entries.specs.Part.{Stored, width, slots_in}
-use Rattle.entries.specs.Whole.{part_of, length_at, with_length, lists_in, slots_at, with_slots, Ruled}
-use Rattle.entries.proofs.Whole.{tidy_list, lent_slots}
+use Rattle.entries.specs.declared.Part.{Part}
+use Rattle.entries.specs.Part.{Stored, width, slots_of}
+use Rattle.entries.specs.Whole.{part_of, part_in, with_length, lists_in, slots_at, with_slots, answered_by, Ruled, Does}
+use Rattle.entries.proofs.Whole.{tidy_list, lent_from, does_refuse}
 use Rattle.request_search.proofs.Grown.{whole_grown}
 use Rattle.request_taking.specs.Takes.{AllStored}
 use Rattle.request_taking.proofs.Taken.{lent_stored}
-use Rattle.request_growth.specs.Grows.{growth_number}
+use Rattle.std.specs.Prelude.{Result as Outcome}
+use Rattle.std.specs.Prelude.{Ok, Err}
+use Rattle.model.specs.declared.refusals.Refusal.{Refusal}
+use Rattle.model.specs.declared.refusals.Refusal.TheVariants.{NotFree, MeetsReservedRegion, NoPlace}
+use Rattle.request_growth.specs.Grows.{growth_check}
 
 -- no room, test by test
 module _ (l : Lists) where
@@ -61,50 +65,42 @@ module _ (l : Lists) (g : FrameRange) where
   abbrev in_reserved_region : Bool
   in_reserved_region = any_of (meets g) (entries l.reserved_regions)
 
-  pub thirteen : in_general_region ≡ true → 13 ≡ growth_number g l
-  unfolding growth_number
+  pub thirteen : in_general_region ≡ true → Err NotFree ≡ growth_check g l
+  unfolding growth_check
   thirteen x = rw x
 
   module _ (x : in_general_region ≡ false) where
-    pub sixteen : in_reserved_region ≡ true → 16 ≡ growth_number g l
-    unfolding growth_number
+    pub sixteen : in_reserved_region ≡ true → Err MeetsReservedRegion ≡ growth_check g l
+    unfolding growth_check
     sixteen y = rw (x, y)
 
     module _ (y : in_reserved_region ≡ false) where
-      pub eighteen : no_room_to_grow l ≡ true → 18 ≡ growth_number g l
-      unfolding growth_number
+      pub eighteen : no_room_to_grow l ≡ true → Err NoPlace ≡ growth_check g l
+      unfolding growth_check
       eighteen z = rw (x, y, z)
 
-      pub no_number : no_room_to_grow l ≡ false → 0 ≡ growth_number g l
-      unfolding growth_number
-      no_number z = rw (x, y, z)
+      pub no_refusal : no_room_to_grow l ≡ false → Ok tt ≡ growth_check g l
+      unfolding growth_check
+      no_refusal z = rw (x, y, z)
 
-  -- what 0 says
+  -- what it says of a part that may become a region
   pub record Open : Type 0 where
     pub general : in_general_region ≡ false
     pub reserved : in_reserved_region ≡ false
     pub room : no_room_to_grow l ≡ false
 
-  pub open_growth : growth_number g l ≡ 0 → Open
-  unfolding growth_number
+  abbrev check : Bool → Bool → Bool → Outcome (Unit {0}) Refusal
+  check x y z = if x then Err NotFree else if y then Err MeetsReservedRegion else if z then Err NoPlace else Ok tt
+
+  pub open_growth : growth_check g l ≡ Ok tt → Open
+  unfolding growth_check
   open_growth e = go in_general_region in_reserved_region (no_room_to_grow l) refl refl refl e
     where
-      go : (x y z : Bool) → in_general_region ≡ x → in_reserved_region ≡ y → no_room_to_grow l ≡ z → ◌≡◌ {A = ℕ} (if x then 13 else if y then 16 else if z then 18 else 0) 0 → Open
-      go true y z p q r h = absurd (omega arith)
-      go false true z p q r h = absurd (omega arith)
-      go false false true p q r h = absurd (omega arith)
+      go : (x y z : Bool) → in_general_region ≡ x → in_reserved_region ≡ y → no_room_to_grow l ≡ z → check x y z ≡ Ok tt → Open
+      go true y z p q r h = absurd (cc)
+      go false true z p q r h = absurd (cc)
+      go false false true p q r h = absurd (cc)
       go false false false p q r h = record { general = p; reserved = q; room = r }
-
-  pub grow_refused : (r : FrameRange) (n : ℕ) → n ≡ growth_number g l → (n ≡ 0 → ⊥) → grow l g r ≡ refused n l
-  unfolding grow growth_number
-  grow_refused r n e k = go in_general_region in_reserved_region (no_room_to_grow l) (from_grown l (with_reserved l (insert l.sorted g l.reserved_free) (insert l.sorted g l.reserved_regions)) r (find l.sorted r (insert l.sorted g l.reserved_free))) e
-    where
-      go : (x y z : Bool) (o : Result) → n ≡ (if x then 13 else if y then 16 else if z then 18 else 0) →
-          (if x then refused 13 l else if y then refused 16 l else if z then refused 18 l else o) ≡ refused n l
-      go true y z o p = ap (λ (m : ℕ). refused m l) (sym p)
-      go false true z o p = ap (λ (m : ℕ). refused m l) (sym p)
-      go false false true o p = ap (λ (m : ℕ). refused m l) (sym p)
-      go false false false o p = absurd (k p)
 
   -- the lists once g is a reserved region and a reserved chunk
   abbrev pub grown : Lists
@@ -113,6 +109,22 @@ module _ (l : Lists) (g : FrameRange) where
   pub grow_on : Open → (r : FrameRange) → grow l g r ≡ from_grown l grown r (find l.sorted r (insert l.sorted g l.reserved_free))
   unfolding grow
   grow_on o r = rw (o.general, o.reserved, o.room)
+
+-- a part that may not leaves the lists
+pub growth_refused : (h : Header) (ws : List ℕ) → Ruled h ws → (g r : FrameRange) (e : Refusal) → growth_check g (lists_in h ws) ≡ Err e → Does (grow (lists_in h ws) g r) ws (answered_by h (Err e)) ws
+unfolding grow growth_check
+growth_refused h ws u g r e k =
+    go (in_general_region l g) (in_reserved_region l g) (no_room_to_grow l) (from_grown l (grown l g) r (find l.sorted r (insert l.sorted g l.reserved_free))) k
+  where
+    l : Lists
+    l = lists_in h ws
+
+    go : (x y z : Bool) (o : Result) → check l g x y z ≡ Err e →
+        Does (if x then refused 13 l else if y then refused 16 l else if z then refused 18 l else o) ws (answered_by h (Err e)) ws
+    go true y z o p = let q : NotFree ≡ e = cc in subst (λ (x : Refusal). Does (refused 13 l) ws (answered_by h (Err x)) ws) q (does_refuse h ws u 13 _ refl)
+    go false true z o p = let q : MeetsReservedRegion ≡ e = cc in subst (λ (x : Refusal). Does (refused 16 l) ws (answered_by h (Err x)) ws) q (does_refuse h ws u 16 _ refl)
+    go false false true o p = let q : NoPlace ≡ e = cc in subst (λ (x : Refusal). Does (refused 18 l) ws (answered_by h (Err x)) ws) q (does_refuse h ws u 18 _ refl)
+    go false false false o p = absurd (cc)
 
 -- the whole request: the free list stays as it is
 pub whole_growth : (l : Lists) (r : FrameRange) → tidy l.sorted l.reserved_free ≡ true → r.start ≤ r.end → find l.sorted r l.reserved_free ≡ not_found → Open l r →
@@ -132,8 +144,9 @@ pub tidy_slotted : (b : Bool) (s : List Slot) → tidy b s ≡ true → slotted 
 tidy_slotted b s t = is_slotted b s (tidy_is b s t).shape.slots
 
 -- what an operation makes of the lent part of a list stands in the header and the entries
-pub lent_changed : (f : List Slot → List Slot) (h : Header) (ws : List ℕ) → Ruled h ws → (w : WhichList) {k from n : ℕ} → k ≡ width h.sorted → from ≡ part_of k w → n ≡ length_at w h → {m : ℕ} {after : List ℕ}
-    → Stored h.sorted (f (slots_in h.sorted n (take ((from + k) - from) (drop from ws)))) m after
-    → AllStored (with_slots w (lists_in h ws) (f (slots_at w (lists_in h ws)))) ws (with_length w h m) (put_mid from ((from + k) - from) ws after)
-lent_changed f h ws u w e p q {m = m} {after = after} st =
-    lent_stored h ws u w e p (f (slots_at w (lists_in h ws))) m after (subst (λ (x : List Slot). Stored h.sorted (f x) m after) (lent_slots h ws u w e p q) st)
+pub lent_changed : (f : Bool → List Slot → List Slot) (h : Header) (ws : List ℕ) (u : Ruled h ws) (w : WhichList) {p : Part} {from to : ℕ}
+    → p ≡ part_in w h → from ≡ part_of (width h.sorted) w → to ≡ part_of (width h.sorted) w + width h.sorted → {m : ℕ} {after : List ℕ}
+    → Stored p.sorted (f p.sorted (slots_of p (take (to - from) (drop from ws)))) m after
+    → AllStored (with_slots w (lists_in h ws) (f h.sorted (slots_at w (lists_in h ws)))) ws (with_length w h m) (put_mid from (to - from) ws after)
+lent_changed f h ws u w q e t {m = m} {after = after} st =
+    lent_stored h ws u w e t (f h.sorted (slots_at w (lists_in h ws))) m after (lent_from h ws u w q e t (λ b s. Stored b (f b s) m after) st)

@@ -31,7 +31,7 @@ use Rattle.request_growth.proofs.Growing.{Open, grown, grow_on}
 pub record LastChunk (s : List Slot) (c : Chosen) : Type 0 where
   pub last : c.first + 1 ≡ length s
   pub one : c.many ≡ 1
-  pub is : range c.start c.end ≡ range_at s c.first
+  pub is : c.range ≡ range_at s c.first
 
 -- only sorted form misses a tail
 pub missing_sorted : (l : Lists) (r : FrameRange) (f n : ℕ) → Lawful l → find l.sorted r l.reserved_free ≡ missing f n → l.sorted ≡ true
@@ -42,16 +42,16 @@ module _ (s : List Slot) (r g : FrameRange) (t : tidy true s ≡ true) (w : Tail
   same : w.place ≡ c.first
   same = omega (arith, w.last, k.last)
 
-  begins : c.start ≡ (range_at s c.first).start
+  begins : c.range.start ≡ (range_at s c.first).start
   begins = ap (λ (x : FrameRange). x.start) k.is
 
-  ends : c.end ≡ (range_at s c.first).end
+  ends : c.range.end ≡ (range_at s c.first).end
   ends = ap (λ (x : FrameRange). x.end) k.is
 
-  starts : (range_at s w.place).start ≡ c.start
+  starts : (range_at s w.place).start ≡ c.range.start
   starts = ap (λ (j : ℕ). (range_at s j).start) same ∙ sym begins
 
-  pub tail_chooses : Chooses true s c r.start c.end
+  pub tail_chooses : Chooses true s c (range r.start c.range.end)
   tail_chooses =
       let p : (range_at s w.place).start ≡ (range_at s c.first).start = ap (λ (j : ℕ). (range_at s j).start) same in
       let q : (range_at s w.place).end ≡ (range_at s c.first).end = ap (λ (j : ℕ). (range_at s j).end) same in
@@ -68,24 +68,24 @@ module _ (s : List Slot) (r g : FrameRange) (t : tidy true s ≡ true) (w : Tail
       }
 
   -- what the model takes from the last chunk and the new one is what is taken from the last chunk alone
-  pub tail_granted : grant_from true w.place 2 (range (range_at s w.place).start g.end) r (insert_sorted g s) ≡ grant_of true c r.start c.end s
+  pub tail_granted : grant_from true w.place 2 (range (range_at s w.place).start g.end) r (insert_sorted g s) ≡ grant_of true c (range r.start c.range.end) s
   tail_granted = w.granted ∙ go (ltb (range_at s w.place).start r.start) refl
     where
       go : (b : Bool) → ltb (range_at s w.place).start r.start ≡ b →
-          (if b then replace_at w.place (range (range_at s w.place).start (r.start - 1)) s else remove true w.place 1 s) ≡ grant_of true c r.start c.end s
+          (if b then replace_at w.place (range (range_at s w.place).start (r.start - 1)) s else remove true w.place 1 s) ≡ grant_of true c (range r.start c.range.end) s
       go true e =
-          let h : c.start < r.start = omega (arith, ltb-true (range_at s w.place).start r.start e, starts) in
+          let h : c.range.start < r.start = omega (arith, ltb-true (range_at s w.place).start r.start e, starts) in
           (λ i. replace_at (same i) (range (starts i) (r.start - 1)) s)
-          ∙ replaced_one c.first (range c.start (r.start - 1)) s (omega (arith, k.last))
-          ∙ ap (λ (m : ℕ). instead c.first m (used (range c.start (r.start - 1)) ∷ []) s) (sym k.one)
-          ∙ sym (grant_before s c r.start c.end (tidy_spaced s t) tail_chooses h (omega arith))
+          ∙ replaced_one c.first (range c.range.start (r.start - 1)) s (omega (arith, k.last))
+          ∙ ap (λ (m : ℕ). instead c.first m (used (range c.range.start (r.start - 1)) ∷ []) s) (sym k.one)
+          ∙ sym (grant_before s c (range r.start c.range.end) (tidy_spaced s t) tail_chooses h (omega arith))
       go false e =
-          let h : r.start ≤ c.start = omega (arith, ltb-false (range_at s w.place).start r.start e, starts) in
-          (λ i. remove true (same i) (sym k.one i) s) ∙ sym (grant_none s c r.start c.end (tidy_spaced s t) tail_chooses h (omega arith))
+          let h : r.start ≤ c.range.start = omega (arith, ltb-false (range_at s w.place).start r.start e, starts) in
+          (λ i. remove true (same i) (sym k.one i) s) ∙ sym (grant_none s c (range r.start c.range.end) (tidy_spaced s t) tail_chooses h (omega arith))
 
   -- and it fits
-  pub tail_left : length (entries s) ≤ bound true → Storable true s → entries_left true c r.start c.end s ≤ bound true
-  tail_left few v = omega (arith, taken_out c r.start c.end v tail_chooses, left_is c r.start c.end v tail_chooses, leftover_bound c.start r.start, no_leftover c.end c.end (omega arith), k.one, w.last)
+  pub tail_left : length (entries s) ≤ bound true → Storable true s → entries_left true c (range r.start c.range.end) s ≤ bound true
+  tail_left few v = omega (arith, taken_out c (range r.start c.range.end) v tail_chooses, left_is c (range r.start c.range.end) v tail_chooses, leftover_bound c.range.start r.start, no_leftover c.range.end c.range.end (omega arith), k.one, w.last)
 
 -- the lists after growth by the tail
 module _ (l : Lists) (r g : FrameRange) (w : TailGrown r l.reserved_free g) (t : tidy true l.reserved_free ≡ true) (e : l.sorted ≡ true) (c : Chosen) (k : LastChunk l.reserved_free c) where
@@ -103,24 +103,24 @@ module _ (l : Lists) (r g : FrameRange) (w : TailGrown r l.reserved_free g) (t :
   unfolding insert
   fits = subst (λ (b : Bool). entries_after b w.place 2 both r (insert b g s) ≤ bound b) (sym e) w.fits
 
-  left : grant_from l.sorted w.place 2 both r (insert l.sorted g s) ≡ grant_of l.sorted c r.start c.end s
+  left : grant_from l.sorted w.place 2 both r (insert l.sorted g s) ≡ grant_of l.sorted c (range r.start c.range.end) s
   unfolding insert
-  left = subst (λ (b : Bool). grant_from b w.place 2 both r (insert b g s) ≡ grant_of b c r.start c.end s) (sym e) (tail_granted s r g t w c k)
+  left = subst (λ (b : Bool). grant_from b w.place 2 both r (insert b g s) ≡ grant_of b c (range r.start c.range.end) s) (sym e) (tail_granted s r g t w c k)
 
-  pub tail_growth : Open l g → grow l g r ≡ granted r (with_slots ReservedRegions (with_slots ReservedFree l (grant_of l.sorted c r.start c.end s)) (insert l.sorted g l.reserved_regions))
+  pub tail_growth : Open l g → grow l g r ≡ granted r (with_slots ReservedRegions (with_slots ReservedFree l (grant_of l.sorted c (range r.start c.range.end) s)) (insert l.sorted g l.reserved_regions))
   unfolding from_grown with_slots
   tail_growth o =
       grow_on l g o r ∙ ap (from_grown l (grown l g) r) found
       ∙ rw (le-ltb (bound l.sorted) (entries_after l.sorted w.place 2 both r (insert l.sorted g s)) fits, left) refl
 
 -- a chunk without the frames that are taken leaves lawful lists
-pub cut_lawful : (l : Lists) (c : Chosen) (start end : ℕ) → Lawful l → Chooses l.sorted l.reserved_free c start end → c.many ≡ 1 → range c.start c.end ≡ range_at l.reserved_free c.first →
-    entries_left l.sorted c start end l.reserved_free ≤ bound l.sorted → Lawful (with_slots ReservedFree l (grant_of l.sorted c start end l.reserved_free))
+pub cut_lawful : (l : Lists) (c : Chosen) (asked : FrameRange) → Lawful l → Chooses l.sorted l.reserved_free c asked → c.many ≡ 1 → c.range ≡ range_at l.reserved_free c.first →
+    entries_left l.sorted c asked l.reserved_free ≤ bound l.sorted → Lawful (with_slots ReservedFree l (grant_of l.sorted c asked l.reserved_free))
 unfolding with_slots grant_of entries_left take_reserved granted
-cut_lawful l c start end a h one is fits =
-    let x = one_holds l.sorted l.reserved_free (range start end) c.first a.shape_rf (omega (arith, h.from, h.begins)) (omega (arith, h.to, ap (λ (y : FrameRange). y.end) is)) in
-    let y : Holds l.sorted l.reserved_free (range start end) c.first c.many (range c.start c.end) =
-    subst (λ (m : ℕ). Holds l.sorted l.reserved_free (range start end) c.first m (range c.start c.end)) (sym one)
-    (subst (λ (z : FrameRange). Holds l.sorted l.reserved_free (range start end) c.first 1 z) (sym is) x) in
-    let g = take_reserved_holds l c.first c.many (range c.start c.end) (range start end) a h.filled y in
-    rw (le-ltb (bound l.sorted) (entries_after l.sorted c.first c.many (range c.start c.end) (range start end) l.reserved_free) fits) at g.lawful
+cut_lawful l c asked a h one is fits =
+    let x = one_holds l.sorted l.reserved_free asked c.first a.shape_rf (omega (arith, h.from, h.begins)) (omega (arith, h.to, ap (λ (y : FrameRange). y.end) is)) in
+    let y : Holds l.sorted l.reserved_free asked c.first c.many c.range =
+    subst (λ (m : ℕ). Holds l.sorted l.reserved_free asked c.first m c.range) (sym one)
+    (subst (λ (z : FrameRange). Holds l.sorted l.reserved_free asked c.first 1 z) (sym is) x) in
+    let g = take_reserved_holds l c.first c.many c.range asked a h.filled y in
+    rw (le-ltb (bound l.sorted) (entries_after l.sorted c.first c.many c.range asked l.reserved_free) fits) at g.lawful

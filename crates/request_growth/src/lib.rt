@@ -7,70 +7,74 @@ ghost use Rattle.memory_structs.specs.Range.{range};
 ghost use Rattle.model.specs.Lists as model;
 ghost use Rattle.model.specs.Requests.{find, not_found, missing, grow, no_room_to_grow};
 ghost use Rattle.entries.specs.declared.header.WhichList.TheVariants.{ReservedFree, ReservedRegions};
-ghost use Rattle.entries.specs.Whole.{lists_in, slots_at, with_slots, Ruled, Does};
+ghost use Rattle.entries.specs.Whole.{lists_in, slots_at, with_slots, answered_by, Ruled, Does};
 ghost use Rattle.request_grants.specs.Grants.{Chooses, grant_of, entries_left};
 ghost use Rattle.request_taking.specs.Takes.{one_chunk, AllStored};
-ghost use Rattle.request_growth.specs.Grows.{growth_number};
+ghost use Rattle.request_growth.specs.Grows.{growth_check};
 
 use entries::{Answered, Header, WhichList};
 use memory_structs::FrameRange;
+use model::Refusal;
 use request_search::Chosen;
 
 // The whole request is new. It would be a reserved chunk and be granted at once, so that the free list stays as it is.
-pub fn grow_whole(h: Header, lists: &mut [u64], asked: FrameRange) -> Answered
+pub fn grow_whole(h: Header, lists: &mut [u64], asked: FrameRange) -> Result<Answered, Refusal>
     requires ruled { Ruled h lists.old }
     requires start_le_end { asked.start ≤ asked.end }
     requires lists_value { find h.sorted asked (lists_in h lists.old).reserved_free ≡ not_found }
-    ensures { Does (grow (lists_in h lists.old) asked asked) lists.old result lists.new }
+    ensures { Does (grow (lists_in h lists.old) asked asked) lists.old (answered_by h result) lists.new }
 {
-    let number = growth_refusal(h, lists, asked.start, asked.end);
-    if number != 0 {
-        return entries::refused(h, number);
-    }
-    let grown = add_reserved_region_to_lists(h, lists, asked.start, asked.end);
-    request_taking::granted(grown, asked)
+    check_growth(h, lists, asked)?;
+    let grown = add_reserved_region_to_lists(h, lists, asked);
+    Ok(request_taking::granted(grown, asked))
 }
 
 // "On *missing* in the reserved list take only the missing tail": the frames from `from` on are new. The last chunk, which ends just
 // below them, gives the others.
-pub fn grow_tail(h: Header, lists: &mut [u64], from: u64, asked: FrameRange) -> Answered
+pub fn grow_tail(
+    h: Header,
+    lists: &mut [u64],
+    from: u64,
+    asked: FrameRange,
+) -> Result<Answered, Refusal>
     requires ruled { Ruled h lists.old }
     requires start_le_end { asked.start ≤ asked.end }
     requires lists_value { find h.sorted asked (lists_in h lists.old).reserved_free ≡ missing from ((asked.end + 1) - from) }
-    ensures { Does (grow (lists_in h lists.old) (range from asked.end) asked) lists.old result lists.new }
+    ensures { Does (grow (lists_in h lists.old) (range from asked.end) asked) lists.old (answered_by h result) lists.new }
 {
-    let number = growth_refusal(h, lists, from, asked.end);
-    if number != 0 {
-        return entries::refused(h, number);
-    }
+    let tail = FrameRange {
+        start: from,
+        end: asked.end,
+    };
+    check_growth(h, lists, tail)?;
     // Only sorted form misses a tail, and there the last chunk is the highest.
     let last = count_in(h, lists, WhichList::ReservedFree) - 1;
     let chosen = chunk_at(h, lists, last);
     let below = FrameRange {
         start: asked.start,
-        end: chosen.end,
+        end: chosen.range.end,
     };
     let cut = take_out(h, lists, chosen, below);
-    let grown = add_reserved_region_to_lists(cut, lists, from, asked.end);
-    request_taking::granted(grown, asked)
+    let grown = add_reserved_region_to_lists(cut, lists, tail);
+    Ok(request_taking::granted(grown, asked))
 }
 
-// "If that part meets a general region: 13. If it meets a reserved region: 16", and 18; 0 where the part may become a region.
-fn growth_refusal(h: Header, lists: &[u64], start: u64, end: u64) -> u64
+// Whether the part may become a region: "If that part meets a general region: 13. If it meets a reserved region: 16", and 18.
+fn check_growth(h: Header, lists: &[u64], part: FrameRange) -> Result<(), Refusal>
     requires ruled { Ruled h lists.now }
-    requires start_le_end { start ≤ end }
-    ensures { result ≡ growth_number (range start end) (lists_in h lists.now) }
+    requires start_le_end { part.start ≤ part.end }
+    ensures { result ≡ growth_check part (lists_in h lists.now) }
 {
-    if entries::meets_in(h, lists, WhichList::GeneralRegions, start, end) {
-        return 13;
+    if h.meets_in(lists, WhichList::GeneralRegions, part) {
+        return Err(Refusal::NotFree);
     }
-    if entries::meets_in(h, lists, WhichList::ReservedRegions, start, end) {
-        return 16;
+    if h.meets_in(lists, WhichList::ReservedRegions, part) {
+        return Err(Refusal::MeetsReservedRegion);
     }
     if no_room_to_grow(h, lists) {
-        return 18;
+        return Err(Refusal::NoPlace);
     }
-    0
+    Ok(())
 }
 
 // 18: the reserved regions are full, "early growth also when either reserved list has 32 already".
@@ -79,7 +83,8 @@ fn no_room_to_grow(h: Header, lists: &[u64]) -> bool
     ensures { result ≡ no_room_to_grow (lists_in h lists.now) }
 {
     let regions = count_in(h, lists, WhichList::ReservedRegions);
-    if entries::bound(h.sorted) <= regions {
+    let bound = h.part(WhichList::ReservedRegions).bound();
+    if bound <= regions {
         return true;
     }
     if h.sorted {
@@ -93,10 +98,7 @@ fn count_in(h: Header, lists: &[u64], which: WhichList) -> usize
     requires { Ruled h lists.now }
     ensures { result ≡ length (model.entries (slots_at which (lists_in h lists.now))) }
 {
-    let size = entries::width(h.sorted);
-    let from = entries::part_of(size, which);
-    let len = entries::length_at(h, which);
-    entries::count(h.sorted, len, &lists[from..from + size])
+    h.part(which).count(&lists[h.words_of(which)])
 }
 
 // The reserved chunk at i, chosen.
@@ -105,42 +107,32 @@ fn chunk_at(h: Header, lists: &[u64], i: usize) -> Chosen
     requires i_in_bounds { i < length (slots_at ReservedFree (lists_in h lists.now)) }
     ensures { result ≡ one_chunk i (model.range_at (slots_at ReservedFree (lists_in h lists.now)) i) }
 {
-    let size = entries::width(h.sorted);
-    let from = entries::part_of(size, WhichList::ReservedFree);
-    let len = entries::length_at(h, WhichList::ReservedFree);
-    let chunk = entries::entry(h.sorted, len, &lists[from..from + size], i);
+    let words = h.words_of(WhichList::ReservedFree);
+    let chunk = h.part(WhichList::ReservedFree).entry(&lists[words], i);
     request_taking::one_chunk(i, chunk)
 }
 
 // The reserved chunk without the frames of `taken`; the other three lists stay as they are.
 fn take_out(h: Header, lists: &mut [u64], chosen: Chosen, taken: FrameRange) -> Header
     requires ruled { Ruled h lists.old }
-    requires chooses { Chooses h.sorted (slots_at ReservedFree (lists_in h lists.old)) chosen taken.start taken.end }
-    requires lists_bound { entries_left h.sorted chosen taken.start taken.end (slots_at ReservedFree (lists_in h lists.old)) ≤ model.bound h.sorted }
-    ensures { AllStored (with_slots ReservedFree (lists_in h lists.old) (grant_of h.sorted chosen taken.start taken.end (slots_at ReservedFree (lists_in h lists.old)))) lists.old result lists.new }
+    requires chooses { Chooses h.sorted (slots_at ReservedFree (lists_in h lists.old)) chosen taken }
+    requires lists_bound { entries_left h.sorted chosen taken (slots_at ReservedFree (lists_in h lists.old)) ≤ model.bound h.sorted }
+    ensures { AllStored (with_slots ReservedFree (lists_in h lists.old) (grant_of h.sorted chosen taken (slots_at ReservedFree (lists_in h lists.old)))) lists.old result lists.new }
 {
-    let size = entries::width(h.sorted);
-    let from = entries::part_of(size, WhichList::ReservedFree);
-    let len = entries::length_at(h, WhichList::ReservedFree);
-    let after = request_grants::allocate_from_chosen_chunk(
-        h.sorted,
-        len,
-        &mut lists[from..from + size],
-        chosen,
-        taken,
-    );
-    entries::with_length(h, WhichList::ReservedFree, after)
+    let part = h.part(WhichList::ReservedFree);
+    let words = h.words_of(WhichList::ReservedFree);
+    let after = request_grants::allocate_from_chosen_chunk(part, &mut lists[words], chosen, taken);
+    h.with_length(WhichList::ReservedFree, after)
 }
 
 // "Else it becomes a reserved region".
-fn add_reserved_region_to_lists(h: Header, lists: &mut [u64], start: u64, end: u64) -> Header
+fn add_reserved_region_to_lists(h: Header, lists: &mut [u64], region: FrameRange) -> Header
     requires ruled { Ruled h lists.old }
     requires lists_len_bound { length (model.entries (lists_in h lists.old).reserved_regions) < model.bound h.sorted }
-    ensures { AllStored (with_slots ReservedRegions (lists_in h lists.old) (model.insert h.sorted (range start end) (lists_in h lists.old).reserved_regions)) lists.old result lists.new }
+    ensures { AllStored (with_slots ReservedRegions (lists_in h lists.old) (model.insert h.sorted region (lists_in h lists.old).reserved_regions)) lists.old result lists.new }
 {
-    let size = entries::width(h.sorted);
-    let from = entries::part_of(size, WhichList::ReservedRegions);
-    let len = entries::length_at(h, WhichList::ReservedRegions);
-    let after = entries::insert(h.sorted, len, &mut lists[from..from + size], start, end);
-    entries::with_length(h, WhichList::ReservedRegions, after)
+    let part = h.part(WhichList::ReservedRegions);
+    let words = h.words_of(WhichList::ReservedRegions);
+    let after = part.insert(&mut lists[words], region);
+    h.with_length(WhichList::ReservedRegions, after)
 }

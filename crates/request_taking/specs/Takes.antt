@@ -1,10 +1,10 @@
 -- A grant from one of the four lists. The words in quotes are document 01's.
 use Rattle.std.specs.Prelude.{ℕ, ◌≡◌, List, ltb}
 use Rattle.std.specs.Prelude.{if◌then◌else◌}
-use Rattle.memory_structs.specs.Range.{range}
 use Rattle.memory_structs.specs.declared.range.FrameRange.{FrameRange}
 use Rattle.model.specs.Lists.{Lists, bound}
 use Rattle.model.specs.Requests.{Result, refused, granted}
+use Rattle.model.specs.Refusals.{granted_answer}
 use Rattle.entries.specs.declared.header.WhichList.{WhichList}
 use Rattle.entries.specs.declared.header.Header.{Header}
 use Rattle.entries.specs.declared.header.Answered.{Answered}
@@ -14,18 +14,18 @@ use Rattle.request_grants.specs.Grants.{grant_of, entries_left}
 
 -- one chunk, chosen
 abbrev pub one_chunk : ℕ → FrameRange → Chosen
-one_chunk i c = record { first = i; many = 1; start = c.start; end = c.end }
+one_chunk i c = record { first = i; many = 1; range = c }
 
 -- 18: "after the call a list would hold more than 32 (early) or 512 (sorted) entries"; else the grant.
 -- `general_taken` and `reserved_taken` (proofs/Taken) say that this is the model's `take_general` and `take_reserved`.
-unfoldable pub taken : WhichList → Chosen → ℕ → ℕ → Lists → Result
-taken w c start end l =
-    if ltb (bound l.sorted) (entries_left l.sorted c start end (slots_at w l)) then refused 18 l else
-    granted (range start end) (with_slots w l (grant_of l.sorted c start end (slots_at w l)))
+unfoldable pub taken : WhichList → Chosen → FrameRange → Lists → Result
+taken w c asked l =
+    if ltb (bound l.sorted) (entries_left l.sorted c asked (slots_at w l)) then refused 18 l else
+    granted asked (with_slots w l (grant_of l.sorted c asked (slots_at w l)))
 
 -- "An accepted call returns number 0, the granted range [..], frame 0", and count 0
 abbrev pub granted_with : FrameRange → Header → Answered
-granted_with r h = answered_with (record { number = 0; range = r; frame = 0; count = 0 }) h
+granted_with r h = answered_with (granted_answer r) h
 
 -- a header and entries store the lists: the lengths, and every word
 pub record AllStored (l : Lists) (before : List ℕ) (h : Header) (after : List ℕ) : Type 0 where

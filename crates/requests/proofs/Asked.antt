@@ -1,80 +1,90 @@
 -- Requests, test by test and by what the searches find.
 use Prim.Native.Nat.{ℕ, ◌+◌, ◌-◌, ◌/◌, ◌%◌, ◌≤◌, ◌<◌}
 use native.Mathlib.Omega.{arith}
-use mathlib.Core.Path.{◌≡◌, refl, sym, ap, subst, ◌∙◌}
+use mathlib.Core.Path.{◌≡◌, refl, ap, subst}
 use mathlib.Core.Bool.{Bool, true, false}
 use mathlib.Core.List.{List}
 use lib.Dec.{ltb, eqb}
 use borrow.Author.Tests.{eq-eqb, ne_eqb, eqb-false, ltb-false, lt-ltb, le-ltb, le-leb, lt-leb}
 use Rattle.std.specs.Prelude.{if◌then◌else◌}
+use Rattle.std.specs.Prelude.{Ok, Err}
+use Rattle.std.specs.Prelude.{Result as Outcome}
 use Rattle.memory_structs.specs.Range.{range, top, address_limit, frame_size}
+use Rattle.memory_structs.specs.declared.range.FrameRange.{FrameRange}
 use Rattle.model.specs.Lists.{Lists}
 use Rattle.model.specs.Requests.{Result, find, refused, refused_missing, frames_of, in_reserved, by_address, by_address_bytes, only_general, by_address_general}
+use Rattle.model.specs.declared.refusals.Refusal.{Refusal}
+use Rattle.model.specs.declared.refusals.Refusal.TheVariants.{NoFrames, OutOfBounds, Missing}
 use Rattle.entries.specs.declared.header.Header.{Header}
-use Rattle.entries.specs.declared.header.Answered.{Answered}
-use Rattle.entries.specs.Whole.{lists_in, Ruled, Does}
-use Rattle.entries.proofs.Whole.{header_kept, words_kept}
-use Rattle.requests.specs.Asks.{asked_number, missing_with}
+use Rattle.entries.specs.Whole.{lists_in, answered_by, Ruled, Does}
+use Rattle.entries.proofs.Whole.{does_refuse, does_leave}
+use Rattle.requests.specs.Asks.{asked_range}
 
 -- 1 and 2
 module _ (f n : ℕ) where
-  pub one : n ≡ 0 → 1 ≡ asked_number f n
-  unfolding asked_number
+  pub one : n ≡ 0 → Err NoFrames ≡ asked_range f n
+  unfolding asked_range
   one e = rw (eq-eqb n 0 e)
 
   module _ (k : n ≡ 0 → ⊥) where
-    pub two : top < f + n - 1 → 2 ≡ asked_number f n
-    unfolding asked_number
+    pub two : top < f + n - 1 → Err OutOfBounds ≡ asked_range f n
+    unfolding asked_range
     two h = rw (ne_eqb n 0 k, lt-ltb top (f + n - 1) h)
 
-    pub no_number : f + n - 1 ≤ top → 0 ≡ asked_number f n
-    unfolding asked_number
-    no_number h = rw (ne_eqb n 0 k, le-ltb top (f + n - 1) h)
+    pub in_bounds : f + n - 1 ≤ top → (end : ℕ) → end ≡ f + (n - 1) → Ok (range f end) ≡ asked_range f n
+    unfolding asked_range
+    in_bounds h end e =
+        let same : end ≡ f + n - 1 = omega (arith, k) in
+        rw (ne_eqb n 0 k, le-ltb top (f + n - 1) h, same)
 
-  -- what 0 says
-  pub record Asked : Type 0 where
+  -- what it says of the frames
+  pub record Asked (r : FrameRange) : Type 0 where
     pub some : n ≡ 0 → ⊥
     pub low : f + n - 1 ≤ top
+    pub is : r ≡ range f (f + n - 1)
 
-  pub asked : asked_number f n ≡ 0 → Asked
-  unfolding asked_number
-  asked e = go (eqb n 0) (ltb top (f + n - 1)) refl refl e
+  abbrev check : Bool → Bool → Outcome FrameRange Refusal
+  check x y = if x then Err NoFrames else if y then Err OutOfBounds else Ok (range f (f + n - 1))
+
+  pub asked : (r : FrameRange) → asked_range f n ≡ Ok r → Asked r
+  unfolding asked_range
+  asked r e = go (eqb n 0) (ltb top (f + n - 1)) refl refl e
     where
-      go : (x y : Bool) → eqb n 0 ≡ x → ltb top (f + n - 1) ≡ y → ◌≡◌ {A = ℕ} (if x then 1 else if y then 2 else 0) 0 → Asked
-      go true y p q h = absurd (omega arith)
-      go false true p q h = absurd (omega arith)
-      go false false p q h = record { some = eqb-false n 0 p; low = ltb-false top (f + n - 1) q }
+      go : (x y : Bool) → eqb n 0 ≡ x → ltb top (f + n - 1) ≡ y → check x y ≡ Ok r → Asked r
+      go true y p q h = absurd (cc)
+      go false true p q h = absurd (cc)
+      go false false p q h = record { some = eqb-false n 0 p; low = ltb-false top (f + n - 1) q; is = cc }
 
-  module _ (l : Lists) where
-    refused_by : (m : ℕ) → m ≡ asked_number f n → (m ≡ 0 → ⊥) → (o : Result) → (if eqb n 0 then refused 1 l else if ltb top (f + n - 1) then refused 2 l else o) ≡ refused m l
-    unfolding asked_number
-    refused_by m e z o = go (eqb n 0) (ltb top (f + n - 1)) e
+  pub some_frames : (r : FrameRange) → asked_range f n ≡ Ok r → r.start ≤ r.end
+  some_frames r e = let k = asked r e in omega (arith, k.some, ap (λ (x : FrameRange). x.start) k.is, ap (λ (x : FrameRange). x.end) k.is)
+
+  module _ (h : Header) (ws : List ℕ) (u : Ruled h ws) (e : Refusal) (k : asked_range f n ≡ Err e) where
+    refused_by : (o : Result) → Does (if eqb n 0 then refused 1 (lists_in h ws) else if ltb top (f + n - 1) then refused 2 (lists_in h ws) else o) ws (answered_by h (Err e)) ws
+    unfolding asked_range
+    refused_by o = go (eqb n 0) (ltb top (f + n - 1)) k
       where
-        go : (x y : Bool) → m ≡ (if x then 1 else if y then 2 else 0) → (if x then refused 1 l else if y then refused 2 l else o) ≡ refused m l
-        go true y p = ap (λ (i : ℕ). refused i l) (sym p)
-        go false true p = ap (λ (i : ℕ). refused i l) (sym p)
-        go false false p = absurd (z p)
+        go : (x y : Bool) → check x y ≡ Err e → Does (if x then refused 1 (lists_in h ws) else if y then refused 2 (lists_in h ws) else o) ws (answered_by h (Err e)) ws
+        go true y p = let q : NoFrames ≡ e = cc in subst (λ (x : Refusal). Does (refused 1 (lists_in h ws)) ws (answered_by h (Err x)) ws) q (does_refuse h ws u 1 _ refl)
+        go false true p = let q : OutOfBounds ≡ e = cc in subst (λ (x : Refusal). Does (refused 2 (lists_in h ws)) ws (answered_by h (Err x)) ws) q (does_refuse h ws u 2 _ refl)
+        go false false p = absurd (cc)
 
-    pub address_refused : (m : ℕ) → m ≡ asked_number f n → (m ≡ 0 → ⊥) → by_address f n l ≡ refused m l
+    pub address_refused : Does (by_address f n (lists_in h ws)) ws (answered_by h (Err e)) ws
     unfolding by_address
-    address_refused m e z = refused_by m e z (in_reserved l (range f (f + n - 1)) (find l.sorted (range f (f + n - 1)) l.reserved_free))
+    address_refused = refused_by _
 
-    pub general_refused : (m : ℕ) → m ≡ asked_number f n → (m ≡ 0 → ⊥) → by_address_general f n l ≡ refused m l
+    pub general_refused : Does (by_address_general f n (lists_in h ws)) ws (answered_by h (Err e)) ws
     unfolding by_address_general
-    general_refused m e z = refused_by m e z (only_general l (range f (f + n - 1)) (find l.sorted (range f (f + n - 1)) l.general_free))
+    general_refused = refused_by _
 
-    -- the frames from f to the end
-    module _ (z : asked_number f n ≡ 0) (end : ℕ) (d : end ≡ f + (n - 1)) where
-      the_end : f + n - 1 ≡ end
-      the_end = let k = asked z in omega (arith, d, k.some)
+  -- the frames from f to the end
+  module _ (l : Lists) (r : FrameRange) (e : asked_range f n ≡ Ok r) where
+    pub address_on : by_address f n l ≡ in_reserved l r (find l.sorted r l.reserved_free)
+    unfolding by_address
+    address_on = let k = asked r e in rw (ne_eqb n 0 k.some, le-ltb top (f + n - 1) k.low, k.is) refl
 
-      pub address_on : by_address f n l ≡ in_reserved l (range f end) (find l.sorted (range f end) l.reserved_free)
-      unfolding by_address
-      address_on = let k = asked z in rw (ne_eqb n 0 k.some, le-ltb top (f + n - 1) k.low, the_end) refl
-
-      pub general_on : by_address_general f n l ≡ only_general l (range f end) (find l.sorted (range f end) l.general_free)
-      unfolding by_address_general
-      general_on = let k = asked z in rw (ne_eqb n 0 k.some, le-ltb top (f + n - 1) k.low, the_end) refl
+    pub general_on : by_address_general f n l ≡ only_general l r (find l.sorted r l.general_free)
+    unfolding by_address_general
+    general_on = let k = asked r e in rw (ne_eqb n 0 k.some, le-ltb top (f + n - 1) k.low, k.is) refl
 
 -- in bytes
 module _ (x b : ℕ) (l : Lists) where
@@ -90,12 +100,7 @@ module _ (x b : ℕ) (l : Lists) where
   unfolding by_address_bytes
   address_bytes_on h k n e = rw (lt-leb address_limit x h, le-ltb address_limit b k, e) refl
 
--- 15 does nothing
-pub does_miss : (h : Header) (ws : List ℕ) → Ruled h ws → (f n : ℕ) (d : Answered) → d ≡ missing_with f n h → (r : Result) → r ≡ refused_missing f n (lists_in h ws) → Does r ws d ws
+-- 15 leaves the lists
+pub does_miss : (h : Header) (ws : List ℕ) → Ruled h ws → (f n : ℕ) (r : Result) → r ≡ refused_missing f n (lists_in h ws) → Does r ws (answered_by h (Err (Missing f n))) ws
 unfolding refused_missing
-does_miss h ws u f n d e r p =
-    subst (λ (o : Result). Does o ws d ws) (sym p) (record {
-      answers = ap (λ (y : Answered). y.answer) e;
-      header = ap (λ (y : Answered). y.header) e ∙ header_kept h ws u;
-      words = words_kept h ws u;
-    })
+does_miss h ws u f n r p = does_leave h ws u _ r p

@@ -42,21 +42,21 @@ unfolding by_bytes
 bytes_on b n l h e = rw (le-ltb address_limit b h, e) refl
 
 -- the beginning of the chunk at i
-pub place_taken : (l : Lists) (n i : ℕ) (c : Chosen) (end : ℕ) → 0 < n → c ≡ one_chunk i (range_at l.general_free i) → end ≡ c.start + (n - 1) → from_place l n (Some i) ≡ taken GeneralFree c c.start end l
+pub place_taken : (l : Lists) (n i : ℕ) (c : Chosen) (end : ℕ) → 0 < n → c ≡ one_chunk i (range_at l.general_free i) → end ≡ c.range.start + (n - 1) → from_place l n (Some i) ≡ taken GeneralFree c (range c.range.start end) l
 unfolding from_place
 place_taken l n i c end h e d =
-    let k : (range_at l.general_free i).start + n - 1 ≡ end = omega (arith, ap (λ (x : Chosen). x.start) e) in
+    let k : (range_at l.general_free i).start + n - 1 ≡ end = omega (arith, ap (λ (x : Chosen). x.range.start) e) in
     let e' : one_chunk i (range_at l.general_free i) ≡ c = sym e in
-    (λ j. take_general l (e' j).first (e' j).many (range (e' j).start (e' j).end) (range (e' j).start (k j)))
-    ∙ sym (general_taken c c.start end l)
+    (λ j. take_general l (e' j).first (e' j).many (e' j).range (range (e' j).range.start (k j)))
+    ∙ sym (general_taken c (range c.range.start end) l)
 
 -- it may be granted from, and its frames end at or below the top
 module _ (sorted : Bool) (s : List Slot) (n i : ℕ) (some : 0 < n) (e : large_enough sorted n s ≡ Some i) (c : Chosen) (p : c ≡ one_chunk i (range_at s i)) where
-  pub beginning_chosen : Chooses sorted s c c.start (c.start + (n - 1))
+  pub beginning_chosen : Chooses sorted s c (range c.range.start (c.range.start + (n - 1)))
   beginning_chosen =
       let same : (range_at s i).start + n - 1 ≡ (range_at s i).start + (n - 1) = omega arith in
-      subst (λ (x : Chosen). Chooses sorted s x x.start (x.start + (n - 1))) (sym p)
-      (subst (λ (m : ℕ). Chooses sorted s (one_chunk i (range_at s i)) (range_at s i).start m) same (place_chooses sorted s n i some e))
+      subst (λ (x : Chosen). Chooses sorted s x (range x.range.start (x.range.start + (n - 1)))) (sym p)
+      (subst (λ (m : ℕ). Chooses sorted s (one_chunk i (range_at s i)) (range (range_at s i).start m)) same (place_chooses sorted s n i some e))
 
-  pub beginning_low : tidy sorted s ≡ true → c.start + n - 1 ≤ top
-  beginning_low t = subst (λ (x : Chosen). x.start + n - 1 ≤ top) (sym p) (place_low sorted s n i some e t)
+  pub beginning_low : tidy sorted s ≡ true → c.range.start + n - 1 ≤ top
+  beginning_low t = subst (λ (x : Chosen). x.range.start + n - 1 ≤ top) (sym p) (place_low sorted s n i some e t)

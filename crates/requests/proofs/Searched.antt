@@ -23,10 +23,7 @@ missing_count sorted r s f n t e =
     let fit = subst (Fit sorted r s) e (find_fit sorted r s (tidy_is sorted s t).shape) in
     (omega (arith, fit.2, fit.3), omega (arith, fit.2, fit.3))
 
-module _ (l : Lists) (start end : ℕ) where
-  abbrev r : FrameRange
-  r = range start end
-
+module _ (l : Lists) (r : FrameRange) where
   abbrev inside : Found
   inside = find l.sorted r l.general_free
 
@@ -43,9 +40,9 @@ module _ (l : Lists) (start end : ℕ) where
   unfolding in_reserved in_general
   general_short e = ap (in_general l r) e
 
-  pub general_chunks : (c : Chosen) → inside ≡ chunks c.first c.many (range c.start c.end) → in_reserved l r not_found ≡ taken GeneralFree c start end l
+  pub general_chunks : (c : Chosen) → inside ≡ chunks c.first c.many c.range → in_reserved l r not_found ≡ taken GeneralFree c r l
   unfolding in_reserved in_general
-  general_chunks c e = ap (in_general l r) e ∙ sym (general_taken c start end l)
+  general_chunks c e = ap (in_general l r) e ∙ sym (general_taken c r l)
 
   -- in the general list alone
   pub only_not : inside ≡ not_found → only_general l r inside ≡ refused 12 l
@@ -60,9 +57,9 @@ module _ (l : Lists) (start end : ℕ) where
   unfolding only_general
   only_short e = ap (only_general l r) e
 
-  pub only_chunks : (c : Chosen) → inside ≡ chunks c.first c.many (range c.start c.end) → only_general l r inside ≡ taken GeneralFree c start end l
+  pub only_chunks : (c : Chosen) → inside ≡ chunks c.first c.many c.range → only_general l r inside ≡ taken GeneralFree c r l
   unfolding only_general
-  only_chunks c e = ap (only_general l r) e ∙ sym (general_taken c start end l)
+  only_chunks c e = ap (only_general l r) e ∙ sym (general_taken c r l)
 
   -- in the reserved list
   abbrev outside : Found
@@ -71,7 +68,7 @@ module _ (l : Lists) (start end : ℕ) where
   pub reserved_not : outside ≡ not_found → in_reserved l r outside ≡ in_reserved l r not_found
   reserved_not e = ap (in_reserved l r) e
 
-  pub reserved_missing : (f n : ℕ) → outside ≡ missing f n → f + n - 1 ≡ end → in_reserved l r outside ≡ grow l (range f end) r
+  pub reserved_missing : (f n : ℕ) → outside ≡ missing f n → f + n - 1 ≡ r.end → in_reserved l r outside ≡ grow l (range f r.end) r
   unfolding in_reserved
   reserved_missing f n e d = ap (in_reserved l r) e ∙ ap (λ (x : ℕ). grow l (range f x) r) d
 
@@ -79,6 +76,6 @@ module _ (l : Lists) (start end : ℕ) where
   unfolding in_reserved
   reserved_short e = ap (in_reserved l r) e
 
-  pub reserved_chunks : (c : Chosen) → outside ≡ chunks c.first c.many (range c.start c.end) → in_reserved l r outside ≡ taken ReservedFree c start end l
+  pub reserved_chunks : (c : Chosen) → outside ≡ chunks c.first c.many c.range → in_reserved l r outside ≡ taken ReservedFree c r l
   unfolding in_reserved
-  reserved_chunks c e = ap (in_reserved l r) e ∙ sym (reserved_taken c start end l)
+  reserved_chunks c e = ap (in_reserved l r) e ∙ sym (reserved_taken c r l)

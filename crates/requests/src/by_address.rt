@@ -2,45 +2,50 @@
 ghost use Rattle.std.specs.Prelude.{◌≡◌, ◌+◌, ◌%◌, ◌≤◌};
 ghost use Rattle.memory_structs.specs.Range.{address_limit, frame_size};
 ghost use Rattle.model.specs.Requests.{frames_of, find, not_found, in_reserved, by_address, by_address_bytes, by_address_general};
-ghost use Rattle.entries.specs.Whole.{lists_in, Ruled, Does};
-ghost use Rattle.requests.specs.Asks.{asked_number, missing_with};
+ghost use Rattle.entries.specs.Whole.{lists_in, answered_by, Ruled, Does};
+ghost use Rattle.requests.specs.Asks.{asked_range};
 
 use crate::by_count::frames_of;
 use entries::{Answered, Header, WhichList};
 use memory_structs::{ADDRESS_LIMIT, FRAME_SIZE, FrameRange};
-use model::Answer;
+use model::Refusal;
 use request_search::Search;
 
 // "Address, whole: the reserved list first."
-pub fn frames_at(h: Header, lists: &mut [u64], frame: u64, num_frames: u64) -> Answered
+pub fn frames_at(
+    h: Header,
+    lists: &mut [u64],
+    frame: u64,
+    num_frames: u64,
+) -> Result<Answered, Refusal>
     requires { Ruled h lists.old }
-    ensures { Does (by_address frame num_frames (lists_in h lists.old)) lists.old result lists.new }
+    ensures { Does (by_address frame num_frames (lists_in h lists.old)) lists.old (answered_by h result) lists.new }
 {
-    let number = asked_number(frame, num_frames);
-    if number != 0 {
-        return entries::refused(h, number);
-    }
-    let end = frame + (num_frames - 1);
-    let asked = FrameRange { start: frame, end };
-    match request_taking::find_in(h, lists, WhichList::ReservedFree, frame, end) {
+    let asked = asked_range(frame, num_frames)?;
+    match request_taking::find_in(h, lists, WhichList::ReservedFree, asked) {
         Search::NotFound => in_general_list(h, lists, asked),
-        Search::Missing(absent) => request_growth::grow_tail(h, lists, absent.frame, asked),
-        Search::TooShort => entries::refused(h, 17),
+        Search::Missing { frame, .. } => request_growth::grow_tail(h, lists, frame, asked),
+        Search::TooShort => Err(Refusal::TooShort),
         Search::Chunks(chosen) => {
             request_taking::take_in(h, lists, WhichList::ReservedFree, chosen, asked)
         }
     }
 }
 
-pub fn bytes_at(h: Header, lists: &mut [u64], address: u64, num_bytes: u64) -> Answered
+pub fn bytes_at(
+    h: Header,
+    lists: &mut [u64],
+    address: u64,
+    num_bytes: u64,
+) -> Result<Answered, Refusal>
     requires { Ruled h lists.old }
-    ensures { Does (by_address_bytes address num_bytes (lists_in h lists.old)) lists.old result lists.new }
+    ensures { Does (by_address_bytes address num_bytes (lists_in h lists.old)) lists.old (answered_by h result) lists.new }
 {
     if ADDRESS_LIMIT <= address {
-        return entries::refused(h, 2);
+        return Err(Refusal::OutOfBounds);
     }
     if ADDRESS_LIMIT < num_bytes {
-        return entries::refused(h, 2);
+        return Err(Refusal::OutOfBounds);
     }
     let num_frames = frames_from(address, num_bytes);
     frames_at(h, lists, address / FRAME_SIZE, num_frames)
@@ -55,20 +60,20 @@ fn frames_from(address: u64, num_bytes: u64) -> u64
 }
 
 // A general-only request looks at the general list alone; 15 says what is missing.
-pub fn general_frames_at(h: Header, lists: &mut [u64], frame: u64, num_frames: u64) -> Answered
+pub fn general_frames_at(
+    h: Header,
+    lists: &mut [u64],
+    frame: u64,
+    num_frames: u64,
+) -> Result<Answered, Refusal>
     requires { Ruled h lists.old }
-    ensures { Does (by_address_general frame num_frames (lists_in h lists.old)) lists.old result lists.new }
+    ensures { Does (by_address_general frame num_frames (lists_in h lists.old)) lists.old (answered_by h result) lists.new }
 {
-    let number = asked_number(frame, num_frames);
-    if number != 0 {
-        return entries::refused(h, number);
-    }
-    let end = frame + (num_frames - 1);
-    let asked = FrameRange { start: frame, end };
-    match request_taking::find_in(h, lists, WhichList::GeneralFree, frame, end) {
-        Search::NotFound => entries::refused(h, 12),
-        Search::Missing(absent) => missing(h, absent.frame, absent.count),
-        Search::TooShort => entries::refused(h, 17),
+    let asked = asked_range(frame, num_frames)?;
+    match request_taking::find_in(h, lists, WhichList::GeneralFree, asked) {
+        Search::NotFound => Err(Refusal::NotFound),
+        Search::Missing { frame, count } => Err(Refusal::Missing { frame, count }),
+        Search::TooShort => Err(Refusal::TooShort),
         Search::Chunks(chosen) => {
             request_taking::take_in(h, lists, WhichList::GeneralFree, chosen, asked)
         }
@@ -76,48 +81,36 @@ pub fn general_frames_at(h: Header, lists: &mut [u64], frame: u64, num_frames: u
 }
 
 // "On *not found*, the general list; there *missing* gives 12. On *not found* twice take the whole request".
-fn in_general_list(h: Header, lists: &mut [u64], asked: FrameRange) -> Answered
+fn in_general_list(h: Header, lists: &mut [u64], asked: FrameRange) -> Result<Answered, Refusal>
     requires ruled { Ruled h lists.old }
     requires start_le_end { asked.start ≤ asked.end }
     requires lists_value { find h.sorted asked (lists_in h lists.old).reserved_free ≡ not_found }
-    ensures { Does (in_reserved (lists_in h lists.old) asked not_found) lists.old result lists.new }
+    ensures { Does (in_reserved (lists_in h lists.old) asked not_found) lists.old (answered_by h result) lists.new }
 {
-    match request_taking::find_in(h, lists, WhichList::GeneralFree, asked.start, asked.end) {
+    match request_taking::find_in(h, lists, WhichList::GeneralFree, asked) {
         Search::NotFound => request_growth::grow_whole(h, lists, asked),
-        Search::Missing(_) => entries::refused(h, 12),
-        Search::TooShort => entries::refused(h, 17),
+        Search::Missing { .. } => Err(Refusal::NotFound),
+        Search::TooShort => Err(Refusal::TooShort),
         Search::Chunks(chosen) => {
             request_taking::take_in(h, lists, WhichList::GeneralFree, chosen, asked)
         }
     }
 }
 
-// 1 for no frames, 2 for a frame above the top, else 0.
-fn asked_number(frame: u64, num_frames: u64) -> u64
-    ensures { result ≡ asked_number frame num_frames }
+// The frames that are asked for: 1 for none of them, 2 for one above the top.
+fn asked_range(frame: u64, num_frames: u64) -> Result<FrameRange, Refusal>
+    ensures { result ≡ asked_range frame num_frames }
 {
     if num_frames == 0 {
-        return 1;
+        return Err(Refusal::NoFrames);
     }
     if FrameRange::TOP < frame {
-        return 2;
+        return Err(Refusal::OutOfBounds);
     }
     // The sum of frame and count may not fit.
     if FrameRange::TOP - frame < num_frames - 1 {
-        return 2;
+        return Err(Refusal::OutOfBounds);
     }
-    0
-}
-
-// 15 "carries frame and count"
-fn missing(h: Header, frame: u64, count: u64) -> Answered
-    ensures { result ≡ missing_with frame count h }
-{
-    let answer = Answer {
-        number: 15,
-        range: FrameRange::EMPTY,
-        frame,
-        count,
-    };
-    Answered { answer, header: h }
+    let end = frame + (num_frames - 1);
+    Ok(FrameRange { start: frame, end })
 }

@@ -2,43 +2,39 @@
 ghost use Rattle.std.specs.Prelude.{◌≡◌, ◌+◌, ◌≤◌};
 ghost use Rattle.memory_structs.specs.Range.{address_limit, frame_size};
 ghost use Rattle.model.specs.Requests.{by_count, by_bytes, frames_of};
-ghost use Rattle.entries.specs.Whole.{lists_in, Ruled, Does};
+ghost use Rattle.entries.specs.Whole.{lists_in, answered_by, Ruled, Does};
 
 use entries::{Answered, Header, WhichList};
 use memory_structs::{ADDRESS_LIMIT, FRAME_SIZE, FrameRange};
+use model::Refusal;
 
 // "Count: early form takes the first slot that is large enough, sorted form the highest chunk; the grant is that chunk's beginning."
-pub fn count_frames(h: Header, lists: &mut [u64], num_frames: u64) -> Answered
+pub fn count_frames(h: Header, lists: &mut [u64], num_frames: u64) -> Result<Answered, Refusal>
     requires { Ruled h lists.old }
-    ensures { Does (by_count num_frames (lists_in h lists.old)) lists.old result lists.new }
+    ensures { Does (by_count num_frames (lists_in h lists.old)) lists.old (answered_by h result) lists.new }
 {
     if num_frames == 0 {
-        return entries::refused(h, 1);
+        return Err(Refusal::NoFrames);
     }
-    let size = entries::width(h.sorted);
-    let from = entries::part_of(size, WhichList::GeneralFree);
-    let len = entries::length_at(h, WhichList::GeneralFree);
-    let found = entries::find_large(h.sorted, len, &lists[from..from + size], num_frames);
-    let Some(i) = found else {
-        return entries::refused(h, 14);
+    let part = h.part(WhichList::GeneralFree);
+    let chunks = &lists[h.words_of(WhichList::GeneralFree)];
+    let Some(i) = part.find_large(chunks, num_frames) else {
+        return Err(Refusal::NoLargeChunk);
     };
-    let chunk = entries::entry(h.sorted, len, &lists[from..from + size], i);
-    let chosen = request_taking::one_chunk(i, chunk);
-    let last = chosen.start + (num_frames - 1);
-    let asked = FrameRange {
-        start: chosen.start,
-        end: last,
-    };
+    let chosen = request_taking::one_chunk(i, part.entry(chunks, i));
+    let start = chosen.range.start;
+    let end = start + (num_frames - 1);
+    let asked = FrameRange { start, end };
     request_taking::take_in(h, lists, WhichList::GeneralFree, chosen, asked)
 }
 
 // "Bytes: add to the bytes the remainder of the address by 4096 (0 where no address is named), divide by 4096, round up."
-pub fn count_bytes(h: Header, lists: &mut [u64], num_bytes: u64) -> Answered
+pub fn count_bytes(h: Header, lists: &mut [u64], num_bytes: u64) -> Result<Answered, Refusal>
     requires { Ruled h lists.old }
-    ensures { Does (by_bytes num_bytes (lists_in h lists.old)) lists.old result lists.new }
+    ensures { Does (by_bytes num_bytes (lists_in h lists.old)) lists.old (answered_by h result) lists.new }
 {
     if ADDRESS_LIMIT < num_bytes {
-        return entries::refused(h, 2);
+        return Err(Refusal::OutOfBounds);
     }
     count_frames(h, lists, frames_of(num_bytes))
 }

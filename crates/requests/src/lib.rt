@@ -3,7 +3,7 @@
 #![tactic(auto)]
 
 ghost use Rattle.model.specs.Calls.{answer};
-ghost use Rattle.entries.specs.Whole.{lists_in, Ruled, Does};
+ghost use Rattle.entries.specs.Whole.{lists_in, answered_by, Ruled, Does};
 ghost use Rattle.requests.specs.Asked.{call_of};
 
 mod by_address;
@@ -12,6 +12,7 @@ mod by_count;
 pub use by_address::{bytes_at, frames_at, general_frames_at};
 pub use by_count::{count_bytes, count_frames};
 use entries::{Answered, Header};
+use model::Refusal;
 
 // What is asked for.
 #[derive(Clone, Copy)]
@@ -27,9 +28,9 @@ pub enum Request {
 }
 
 // As what is asked for is met.
-pub fn meet_request(h: Header, lists: &mut [u64], request: Request) -> Answered
+pub fn meet_request(h: Header, lists: &mut [u64], request: Request) -> Result<Answered, Refusal>
     requires { Ruled h lists.old }
-    ensures { Does (answer (call_of request) (lists_in h lists.old)) lists.old result lists.new }
+    ensures { Does (answer (call_of request) (lists_in h lists.old)) lists.old (answered_by h result) lists.new }
 {
     match request {
         Request::Frames { num_frames } => count_frames(h, lists, num_frames),

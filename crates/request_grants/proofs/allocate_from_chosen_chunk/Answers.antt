@@ -5,7 +5,7 @@ use mathlib.Core.List.{List}
 use Prim.Native.Nat.{◌≤◌}
 use Rattle.model.specs.Lists.{Slot, bound}
 use Rattle.model.specs.Rules.{tidy}
-use Rattle.entries.specs.Part.{slots_in}
+use Rattle.entries.specs.Part.{slots_of}
 use Rattle.entries.proofs.Forms.{as_table, as_pairs, at_sorted, at_early, sorted_after, early_after}
 use Rattle.memory_structs.specs.declared.range.FrameRange.{FrameRange}
 use Rattle.request_search.specs.declared.Chosen.{Chosen}
@@ -14,35 +14,35 @@ use Rattle.request_grants.proofs.allocate_from_chosen_chunk.Goals as goal
 
 -- what was asked for, in the form that the list has
 abbrev Asked : Chosen → FrameRange → Bool → List Slot → Type 0
-Asked k r b x = Chooses b x k r.start r.end × (entries_left b k r.start r.end x ≤ bound b)
+Asked k r b x = Chooses b x k r × (entries_left b k r x ≤ bound b)
 
 pub allocate_from_table-requires : goal.allocate_from_table-requires
 unfolding bound
 allocate_from_table-requires c =
-    let asked : (b : Bool) (x : List Slot) → ◌≡◌ {A = Bool × List Slot} (c.args.sorted, slots_in c.args.sorted c.args.len c.args.t.now) (b, x) → Asked c.args.chosen c.args.asked b x = λ b. λ x. λ e. subst (λ (p : Bool × List Slot). Asked c.args.chosen c.args.asked p.0 p.1) e (c.requires.chooses, c.requires.t_bound) in
+    let asked : (b : Bool) (x : List Slot) → ◌≡◌ {A = Bool × List Slot} (c.args.part.sorted, slots_of c.args.part c.args.t.now) (b, x) → Asked c.args.chosen c.args.asked b x = λ b. λ x. λ e. subst (λ (p : Bool × List Slot). Asked c.args.chosen c.args.asked p.0 p.1) e (c.requires.chooses, c.requires.t_bound) in
     let a = c.args in
-    let e = c.if-sorted.true in
-    let k = asked _ _ (at_sorted (λ b x. (b, x)) a.len a.t.now e) in record {
-      table = as_table c.requires.part e;
-      t_value = sym (at_sorted tidy a.len a.t.now e) ∙ c.requires.t_value;
+    let e = c.if-part.true in
+    let k = asked _ _ (at_sorted (λ b x. (b, x)) a.part.len a.t.now e) in record {
+      table = as_table c.requires.tidy.part e;
+      t_value = sym (at_sorted tidy a.part.len a.t.now e) ∙ c.requires.tidy.keeps;
       chooses = k.0;
       t_bound = k.1;
     }
 
-pub returns-then-sorted : goal.returns-then-sorted
-returns-then-sorted c = let a = c.args in
-    sorted_after (λ b x. grant_of b a.chosen a.asked.start a.asked.end x) c.requires.part c.if-sorted.true c.allocate_from_table.ensures.counted c.allocate_from_table.ensures.written
+pub returns-then-part : goal.returns-then-part
+returns-then-part c = let a = c.args in
+    sorted_after (λ b x. grant_of b a.chosen a.asked x) c.requires.tidy.part c.if-part.true c.allocate_from_table.ensures.counted c.allocate_from_table.ensures.written
 
 pub allocate_from_slots-requires : goal.allocate_from_slots-requires
 allocate_from_slots-requires c =
-    let asked : (b : Bool) (x : List Slot) → ◌≡◌ {A = Bool × List Slot} (c.args.sorted, slots_in c.args.sorted c.args.len c.args.t.now) (b, x) → Asked c.args.chosen c.args.asked b x = λ b. λ x. λ e. subst (λ (p : Bool × List Slot). Asked c.args.chosen c.args.asked p.0 p.1) e (c.requires.chooses, c.requires.t_bound) in
+    let asked : (b : Bool) (x : List Slot) → ◌≡◌ {A = Bool × List Slot} (c.args.part.sorted, slots_of c.args.part c.args.t.now) (b, x) → Asked c.args.chosen c.args.asked b x = λ b. λ x. λ e. subst (λ (p : Bool × List Slot). Asked c.args.chosen c.args.asked p.0 p.1) e (c.requires.chooses, c.requires.t_bound) in
     let a = c.args in
-    let e = c.if-sorted.false in record {
-      pairs = as_pairs c.requires.part e;
-      t_value = sym (at_early tidy a.len a.t.now e) ∙ c.requires.t_value;
-      chooses = (asked _ _ (at_early (λ b x. (b, x)) a.len a.t.now e)).0;
+    let e = c.if-part.false in record {
+      pairs = as_pairs c.requires.tidy.part e;
+      t_value = sym (at_early tidy a.part.len a.t.now e) ∙ c.requires.tidy.keeps;
+      chooses = (asked _ _ (at_early (λ b x. (b, x)) a.part.len a.t.now e)).0;
     }
 
 pub returns : goal.returns
 returns c = let a = c.args in
-    early_after (λ b x. grant_of b a.chosen a.asked.start a.asked.end x) c.requires.part c.if-sorted.false c.allocate_from_slots.ensures
+    early_after (λ b x. grant_of b a.chosen a.asked x) c.requires.tidy.part c.if-part.false c.allocate_from_slots.ensures

@@ -11,10 +11,10 @@ empty_slot-requires c = record {
 }
 
 pub put_before-requires : goal.put_before-requires
-put_before-requires c = pairs_emptied c.args.t.now c.args.chosen c.args.asked.start c.args.asked.end c.requires.t_value c.requires.chooses c.empty_slot.ensures
+put_before-requires c = pairs_emptied c.args.t.now c.args.chosen c.args.asked c.requires.t_value c.requires.chooses c.empty_slot.ensures
 
 pub put_after-requires : goal.put_after-requires
-put_after-requires c = pairs_before c.args.t.now c.args.chosen c.args.asked.start c.args.asked.end c.requires.t_value c.requires.chooses c.empty_slot.ensures c.put_before.ensures
+put_after-requires c = pairs_before c.args.t.now c.args.chosen c.args.asked c.requires.t_value c.requires.chooses c.empty_slot.ensures c.put_before.ensures
 
 pub returns : goal.returns
-returns c = all_steps c.args.t.now c.args.chosen c.args.asked.start c.args.asked.end c.requires.t_value c.requires.chooses c.empty_slot.ensures c.put_before.ensures c.put_after.ensures
+returns c = all_steps c.args.t.now c.args.chosen c.args.asked c.requires.t_value c.requires.chooses c.empty_slot.ensures c.put_before.ensures c.put_after.ensures

@@ -1,8 +1,8 @@
--- `growth_refusal`: 13, 16 and 18, test by test.
+-- `check_growth`: 13, 16 and 18, test by test.
 use mathlib.Core.Path.{sym, ◌∙◌}
 use Rattle.entries.specs.Whole.{slots_at}
-use Rattle.request_growth.proofs.Growing.{thirteen, sixteen, eighteen, no_number}
-use Rattle.request_growth.proofs.growth_refusal.Goals as goal
+use Rattle.request_growth.proofs.Growing.{thirteen, sixteen, eighteen, no_refusal}
+use Rattle.request_growth.proofs.check_growth.Goals as goal
 
 pub returns-then-meets_in : goal.returns-then-meets_in
 unfolding slots_at
@@ -18,4 +18,4 @@ returns-then-no_room_to_grow c = eighteen _ _ (sym c.meets_in.ensures ∙ c.if-m
 
 pub returns : goal.returns
 unfolding slots_at
-returns c = no_number _ _ (sym c.meets_in.ensures ∙ c.if-meets_in.false) (sym c.meets_in-2.ensures ∙ c.if-meets_in-2.false) (sym c.no_room_to_grow.ensures ∙ c.if-no_room_to_grow.false)
+returns c = no_refusal _ _ (sym c.meets_in.ensures ∙ c.if-meets_in.false) (sym c.meets_in-2.ensures ∙ c.if-meets_in-2.false) (sym c.no_room_to_grow.ensures ∙ c.if-no_room_to_grow.false)
