@@ -1,142 +1,137 @@
 // From a boot map to the four lists: document 01, "Boot" (000, `init`).
 #![tactic(auto)]
 
-ghost use Rattle.std.specs.Prelude.{◌≡◌, not};
+ghost use Rattle.std.specs.Prelude.{◌≡◌, ◌==◌, ℕ, List, length, not, IfOk};
+ghost use Rattle.std.specs.List.{list_any};
+ghost use Rattle.model.specs.Boot as model;
 ghost use Rattle.model.specs.Calls.{boot_call, boot_bytes_call, Gives, no_entries};
-ghost use Rattle.model.specs.Store.{load};
+ghost use Rattle.model.specs.Lists.{entries};
+ghost use Rattle.model.specs.Store.{slots_of, load, record_of};
 ghost use Rattle.rules.specs.Check.{Ruled};
-ghost use Rattle.carving.specs.Ranges.{ranges_in, Whole, Counted};
-ghost use Rattle.areas.specs.Areas.{read, areas_in, byte_areas_in};
-ghost use Rattle.boot.specs.Boots as spec;
-ghost use Rattle.boot.specs.Boots.{Sound, CarvedOut, Surveys, Finishable};
+ghost use Rattle.areas.specs.Areas.{areas_in, byte_areas_in, extents};
+ghost use Rattle.areas.specs.Boots.{boot_call_of};
+ghost use Rattle.boot.specs.Boots.{refused_by, boot_number, refusal_of};
 
-use areas::{AreaUnit, Collected};
-use carving::RangeList;
-use model::{Called, FrameAllocator};
-
-// What a boot needs of its areas, in whatever form they come: the reserved ones with what 5, 4 and 2 look at, and the pieces of the
-// general ones.
-#[derive(Clone, Copy)]
-pub struct Survey {
-    pub collected: Collected,
-    pub pieces: RangeList,
-}
+use areas::{AreaUnit, BootMap, Collected, WordAreas};
+use model::{Called, EarlyList, FrameAllocator, Refusal};
 
 // Boots from areas given as first frame, last frame and kind. The workspace has 4,096 words in either form, else 3; it is read only in
 // sorted form, and never written.
+#[tactic(auto, unfolding(areas::specs::Boots::boot_call_of))]
 pub fn init(a: FrameAllocator, areas: &[u64], words: &[u64]) -> Called
     ensures { Gives (boot_call (areas_in areas.now)) a words.now result words.now }
 {
-    boot_surveyed(a, survey_words(areas, AreaUnit::Frames), words)
+    let unit = AreaUnit::Frames;
+    boot_map(a, &WordAreas { words: areas, unit }, words)
 }
 
 // Boots from areas given as address, size in bytes and kind.
+#[tactic(auto, unfolding(areas::specs::Boots::boot_call_of))]
 pub fn init_from_bytes(a: FrameAllocator, areas: &[u64], words: &[u64]) -> Called
     ensures { Gives (boot_bytes_call (byte_areas_in areas.now)) a words.now result words.now }
 {
-    boot_surveyed(a, survey_words(areas, AreaUnit::Bytes), words)
+    let unit = AreaUnit::Bytes;
+    boot_map(a, &WordAreas { words: areas, unit }, words)
 }
 
 // A boot from areas in either unit, of a record that keeps the rules: 10 comes first.
 pub fn boot_words(a: FrameAllocator, areas: &[u64], unit: AreaUnit, words: &[u64]) -> Called
     requires { Ruled a words.now }
-    ensures { Gives (spec.boot_call_of unit areas.now) a words.now result words.now }
+    ensures { Gives (boot_call_of unit areas.now) a words.now result words.now }
 {
-    boot_ruled(a, survey_words(areas, unit), words)
+    boot_ruled(a, &WordAreas { words: areas, unit }, words)
 }
 
-fn survey_words(areas: &[u64], unit: AreaUnit) -> Survey
-    ensures { Surveys (read unit areas.now) result }
-{
-    let collected = areas::collect(areas, unit);
-    let pieces = areas::carve(areas, unit, carvable(collected));
-    Survey { collected, pieces }
-}
-
-// The reserved areas where they may be carved out; none where 5, 4 or 2 refuses the boot, and its pieces are not looked at.
-pub fn carvable(c: Collected) -> RangeList
-    requires { Sound c }
-    ensures { CarvedOut c result }
-{
-    if refusal(c) != 0 {
-        return carving::no_ranges();
-    }
-    c.reserved
-}
-
-// 3 and 11; then as a record that keeps the rules is booted.
-pub fn boot_surveyed(a: FrameAllocator, s: Survey, words: &[u64]) -> Called
-    requires { Finishable s }
-    ensures { result ≡ spec.booted_with s a words.now }
+// A boot from a map in any form: 3 and 11; then as a record that keeps the rules is booted.
+pub fn boot_map<M: BootMap>(a: FrameAllocator, map: &M, words: &[u64]) -> Called
+    ensures { Gives (M.call map.now) a words.now result words.now }
 {
     let broken = rules::check(a, words);
     if broken != 0 {
         return rules::refused(a, broken);
     }
-    boot_ruled(a, s, words)
+    boot_ruled(a, map, words)
 }
 
-// 10; then 5, 4 and 2; then 7 and 6, or the record with its lists filled.
-fn boot_ruled(a: FrameAllocator, s: Survey, words: &[u64]) -> Called
-    requires ruled { Ruled a words.now }
-    requires finishable { Finishable s }
-    ensures { result ≡ spec.booted_with s a words.now }
-{
-    if has_entries(a, words) {
-        return rules::refused(a, 10);
-    }
-    let collected = s.collected;
-    let number = refusal(collected);
-    if number != 0 {
-        return rules::refused(a, number);
-    }
-    finish(a, s.pieces, collected.reserved)
-}
-
-// 10: "boot, and any list is not empty". In sorted form the record keeps how many entries there are.
-fn has_entries(a: FrameAllocator, words: &[u64]) -> bool
+fn boot_ruled<M: BootMap>(a: FrameAllocator, map: &M, words: &[u64]) -> Called
     requires { Ruled a words.now }
-    ensures { result ≡ not (no_entries (load a words.now)) }
+    ensures { Gives (M.call map.now) a words.now result words.now }
+{
+    match filled(&a, map) {
+        Ok(booted) => rules::accepted(booted, 0),
+        Err(refusal) => rules::refused(a, refusal.number()),
+    }
+}
+
+// "boot then 10, 5, 4, 2, 7, 6", or the record with its lists filled.
+fn filled<M: BootMap>(a: &FrameAllocator, map: &M) -> Result<FrameAllocator, Refusal>
+    ensures number { (ws : List ℕ) → refused_by result ≡ boot_number (load a.now ws) (M.areas map.now) }
+    ensures lists { IfOk result (λ booted. booted ≡ record_of (model.booted (extents (M.areas map.now)))) }
+{
+    if has_entries(a) {
+        return Err(Refusal::NotEmpty);
+    }
+    let collected = areas::collect(map);
+    check(&collected)?;
+    let pieces = areas::carve(map, &collected.reserved);
+    if 32 < pieces.len {
+        return Err(Refusal::TooManyPieces);
+    }
+    let mut joined = collected.reserved;
+    joining::join(&mut joined);
+    if !filling::are_disjoint(&pieces, &joined) {
+        return Err(Refusal::PiecesMeet);
+    }
+    Ok(filling::fill_lists(&pieces, &joined))
+}
+
+// 10: "boot, and any list is not empty". In sorted form the record keeps how many entries there are; the words are not looked at.
+fn has_entries(a: &FrameAllocator) -> bool
+    ensures { (ws : List ℕ) → result ≡ not (no_entries (load a.now ws)) }
 {
     if a.sorted {
-        let chunks = a.general_free_len + a.reserved_free_len;
-        return chunks + a.general_regions_len + a.reserved_regions_len != 0;
+        return is_any(&[
+            a.general_free_len != 0,
+            a.reserved_free_len != 0,
+            a.general_regions_len != 0,
+            a.reserved_regions_len != 0,
+        ]);
     }
-    let general_chunks = early::count(a.general_free);
-    let reserved_chunks = early::count(a.reserved_free);
-    let general_regions = early::count(a.general_regions);
-    let reserved_regions = early::count(a.reserved_regions);
-    general_chunks + reserved_chunks + general_regions + reserved_regions != 0
+    is_any(&[
+        is_any_used(&a.general_free),
+        is_any_used(&a.reserved_free),
+        is_any_used(&a.general_regions),
+        is_any_used(&a.reserved_regions),
+    ])
+}
+
+// Whether some slot is used.
+fn is_any_used(list: &EarlyList) -> bool
+    ensures { result ≡ not (length (entries (slots_of list.now)) == 0) }
+{
+    is_any(&list.used)
+}
+
+// Whether one of the flags is true.
+fn is_any(flags: &[bool]) -> bool
+    ensures { result ≡ list_any (λ flag. flag) flags.now }
+{
+    flags.iter().any(|flag| *flag)
 }
 
 // 5, 4 and 2, in this order: what refuses a boot before any area is carved.
-fn refusal(c: Collected) -> u64
-    ensures { result ≡ spec.refusal_of c }
+#[tactic(auto, unfolding(crate::specs::Boots::refusal_of))]
+fn check(collected: &Collected) -> Result<(), Refusal>
+    ensures { refused_by result ≡ refusal_of collected.now }
 {
-    if 32 < c.reserved.len {
-        return 5;
+    if 32 < collected.reserved.len {
+        return Err(Refusal::TooManyReservedAreas);
     }
-    if c.any_empty {
-        return 4;
+    if collected.any_empty {
+        return Err(Refusal::EmptyReservedArea);
     }
-    if c.any_outside {
-        return 2;
+    if collected.any_outside {
+        return Err(Refusal::OutOfBounds);
     }
-    0
-}
-
-// 7 and 6, or the record with its lists filled.
-fn finish(a: FrameAllocator, pieces: RangeList, reserved: RangeList) -> Called
-    requires counted { Counted pieces }
-    requires whole { Whole reserved }
-    ensures { result ≡ spec.finished pieces (ranges_in reserved) a }
-{
-    if 32 < pieces.len {
-        return rules::refused(a, 7);
-    }
-    let joined = joining::join(reserved);
-    if filling::are_disjoint(pieces, joined) {
-        return rules::accepted(filling::fill_lists(pieces, joined), 0);
-    }
-    rules::refused(a, 6)
+    Ok(())
 }
