@@ -12,10 +12,10 @@ unfolding Collects
 returns-then-of-ge64 c = (full c.args.area.kind c.args.counts c.requires.few (omega (arith, c.of.ensures)), refl)
 
 pub bounds-areas-at-2 : goal.bounds-areas-at-2
-bounds-areas-at-2 c = simp length-set (omega (arith, c.requires.long, c.words_used-at.ensures, fits _ _ (omega (arith, c.of.ensures)) c.requires.few))
+bounds-areas-at-2 c = simp length-set (omega (arith, c.requires.long, c.words_used-at.ensures, fits c.args.area.kind c.args.counts (omega (arith, c.of.ensures)) c.requires.few))
 
 pub bounds-areas-at-3 : goal.bounds-areas-at-3
-bounds-areas-at-3 c = simp length-set (omega (arith, c.requires.long, c.words_used-at.ensures, fits _ _ (omega (arith, c.of.ensures)) c.requires.few))
+bounds-areas-at-3 c = simp length-set (omega (arith, c.requires.long, c.words_used-at.ensures, fits c.args.area.kind c.args.counts (omega (arith, c.of.ensures)) c.requires.few))
 
 pub returns : goal.returns
 unfolding Collects
