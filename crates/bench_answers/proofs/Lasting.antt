@@ -6,6 +6,7 @@ use mathlib.Core.List.{List, [], ◌∷◌, ◌++◌, append_assoc, append-nil}
 use lib.ListN.{length, take}
 use lib.Dec.{eqb}
 use Rattle.bench_lines.specs.Commands.{command_of}
+use Rattle.std.proofs.Common.{Option}
 use Rattle.bench_lines.specs.declared.Command.{Command}
 use Rattle.bench_lines.specs.Lines.{lines_from, LineHeld}
 use Rattle.bench_lines.proofs.Held.{held_decides_on}
@@ -41,7 +42,7 @@ same_state a b (x ∷ text) s same = go (eqb x 10) (same_state (a ++ (x ∷ []))
   where
     go : (t : Bool) → state_after (lines_from (a ++ (x ∷ [])) text) s ≡ state_after (lines_from (b ++ (x ∷ [])) text) s →
         state_after (cond t (a ∷ lines_from [] text) (lines_from (a ++ (x ∷ [])) text)) s ≡ state_after (cond t (b ∷ lines_from [] text) (lines_from (b ++ (x ∷ [])) text)) s
-    go true later = ap (λ (c : Command). state_after (lines_from [] text) (answered c s).state) (ends a b same)
+    go true later = ap (λ (c : Option Command). state_after (lines_from [] text) (answered c s).state) (ends a b same)
     go false later = later
 
 same_print : (a b text : List ℕ) (s : State) → SameLine a b → printed (lines_from a text) s ≡ printed (lines_from b text) s
@@ -51,7 +52,7 @@ same_print a b (x ∷ text) s same = go (eqb x 10) (same_print (a ++ (x ∷ []))
   where
     go : (t : Bool) → printed (lines_from (a ++ (x ∷ [])) text) s ≡ printed (lines_from (b ++ (x ∷ [])) text) s →
         printed (cond t (a ∷ lines_from [] text) (lines_from (a ++ (x ∷ [])) text)) s ≡ printed (cond t (b ∷ lines_from [] text) (lines_from (b ++ (x ∷ [])) text)) s
-    go true later = ap (λ (c : Command). (answered c s).text ++ printed (lines_from [] text) (answered c s).state) (ends a b same)
+    go true later = ap (λ (c : Option Command). (answered c s).text ++ printed (lines_from [] text) (answered c s).state) (ends a b same)
     go false later = later
 
 -- what is held of a line stands for all that came of it

@@ -15,8 +15,7 @@ use Rattle.areas.specs.Areas.{triples}
 use Rattle.rules.specs.Check.{Ruled}
 use Rattle.rules.proofs.Lasting.{fresh_ruled, gives_ruled}
 use Rattle.bench_areas.specs.declared.AreaCounts.{AreaCounts}
-use Rattle.bench_areas.specs.declared.Collecting.{Collecting}
-use Rattle.bench_areas.specs.declared.Collecting.TheVariants.{Taken, Full}
+use Rattle.std.proofs.Common.{Option, Some, None}
 use Rattle.bench_areas.specs.Areas.{Room, Collects, no_areas, count_of, how_many, collected}
 use Rattle.bench_texts.specs.Texts.{Puts, bad_line, answer_line}
 use Rattle.bench_answers.specs.declared.Bench.{Bench}
@@ -74,12 +73,12 @@ module _ {b : Bench} {out out-after areas : List ℕ} {r : Reply} (same : length
     };
   }
 
-  module _ (wide : reply_room ≤ length out) (room : Room b.counts areas) (a : Area) {x : Collecting} {after : List ℕ} (h : Collects a b.counts areas x after) where
+  module _ (wide : reply_room ≤ length out) (room : Room b.counts areas) (a : Area) {x : Option AreaCounts} {after : List ℕ} (h : Collects a b.counts areas x after) where
     -- an area more
-    pub taken : {d : AreaCounts} → x ≡ Taken d → Says [] (record { allocator = b.allocator; counts = d }) out r out-after → Gathers a b out areas r out-after after
+    pub taken : {d : AreaCounts} → x ≡ Some d → Says [] (record { allocator = b.allocator; counts = d }) out r out-after → Gathers a b out areas r out-after after
     unfolding Collects collecting
     taken {d} e s ws ruled =
-        let did = subst (λ (y : Collecting). Collects a b.counts areas y after) e h in
+        let did = subst (λ (y : Option AreaCounts). Collects a b.counts areas y after) e h in
         let few : how_many a.kind (collected b.counts areas) < 64 = omega (arith, did.0, room.counted a.kind) in
         rw (lt-ltb (how_many a.kind (collected b.counts areas)) 64 few) (record {
           state =
@@ -94,10 +93,10 @@ module _ {b : Bench} {out out-after areas : List ℕ} {r : Reply} (same : length
         })
 
     -- "the 65th of a kind is `(bad)`"
-    pub full : x ≡ Full → Says bad_line b out r out-after → Gathers a b out areas r out-after after
+    pub full : x ≡ None → Says bad_line b out r out-after → Gathers a b out areas r out-after after
     unfolding Collects collecting
     full e s ws ruled =
-        let did = subst (λ (y : Collecting). Collects a b.counts areas y after) e h in
+        let did = subst (λ (y : Option AreaCounts). Collects a b.counts areas y after) e h in
         let many : 64 ≤ how_many a.kind (collected b.counts areas) = omega (arith, did.0, room.counted a.kind) in
         rw (le-ltb (how_many a.kind (collected b.counts areas)) 64 many)
         (subst (λ (xs : List ℕ). Replies (saying bad_line (state_of b areas ws)) out r out-after xs ws) (sym did.1) (says (record { printing = wide; collecting = room; ruled = ruled }) s))

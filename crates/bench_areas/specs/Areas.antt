@@ -1,12 +1,10 @@
 -- Areas that are collected. The words in quotes are document 01's.
-use Rattle.std.specs.Prelude.{ℕ, ◌+◌, ◌*◌, ◌≤◌, ◌<◌, ◌≡◌, List, [], ◌∷◌, ◌++◌, length, take}
+use Rattle.std.specs.Prelude.{ℕ, ◌+◌, ◌*◌, ◌≤◌, ◌<◌, ◌≡◌, List, [], ◌∷◌, ◌++◌, length, take, Option, Some, None}
 use Rattle.model.specs.declared.Area.{Area}
 use Rattle.model.specs.declared.Kind.{Kind}
 use Rattle.model.specs.declared.Kind.TheVariants.{General, Reserved}
 use Rattle.areas.specs.Areas.{areas_in}
 use Rattle.bench_areas.specs.declared.AreaCounts.{AreaCounts}
-use Rattle.bench_areas.specs.declared.Collecting.{Collecting}
-use Rattle.bench_areas.specs.declared.Collecting.TheVariants.{Taken, Full}
 
 abbrev pub no_areas : AreaCounts
 no_areas = record { general = 0; reserved = 0 }
@@ -61,6 +59,6 @@ pub record Adds (a : Area) (c : AreaCounts) (before : List ℕ) (d : AreaCounts)
   pub room : Room d after
 
 -- "the 65th of a kind is `(bad)`", and changes nothing
-unfoldable pub Collects : Area → AreaCounts → List ℕ → Collecting → List ℕ → Type 0
-Collects a c before (Taken d) after = (count_of a.kind c < 64) × Adds a c before d after
-Collects a c before Full after = (count_of a.kind c ≡ 64) × (after ≡ before)
+unfoldable pub Collects : Area → AreaCounts → List ℕ → Option AreaCounts → List ℕ → Type 0
+Collects a c before (Some d) after = (count_of a.kind c < 64) × Adds a c before d after
+Collects a c before None after = (count_of a.kind c ≡ 64) × (after ≡ before)

@@ -14,72 +14,72 @@ pub struct AreaCounts {
     pub reserved: usize,
 }
 
-// The counts with one area more, or none where 64 of its kind are there.
-#[derive(Clone, Copy)]
-pub enum Collecting {
-    Taken(AreaCounts),
-    Full,
-}
+impl AreaCounts {
+    pub fn none() -> AreaCounts
+        ensures { result ≡ no_areas }
+    {
+        AreaCounts {
+            general: 0,
+            reserved: 0,
+        }
+    }
 
-pub fn no_areas() -> AreaCounts
-    ensures { result ≡ no_areas }
-{
-    AreaCounts {
-        general: 0,
-        reserved: 0,
+    // How many words the areas take.
+    pub fn words_used(self) -> usize
+        requires { Few self }
+        ensures { result ≡ words_used self }
+    {
+        3 * (self.general + self.reserved)
+    }
+
+    #[tactic(auto, unfolding(crate::specs::Areas::count_of))]
+    fn of(self, kind: Kind) -> usize
+        ensures { result ≡ count_of kind self }
+    {
+        match kind {
+            Kind::General => self.general,
+            Kind::Reserved => self.reserved,
+        }
+    }
+
+    #[tactic(auto, unfolding(crate::specs::Areas::one_more))]
+    fn one_more(self, kind: Kind) -> AreaCounts
+        requires { Few self }
+        ensures { result ≡ one_more kind self }
+    {
+        match kind {
+            Kind::General => AreaCounts {
+                general: self.general + 1,
+                ..self
+            },
+            Kind::Reserved => AreaCounts {
+                reserved: self.reserved + 1,
+                ..self
+            },
+        }
     }
 }
 
-// Puts the area after those that are there. "`(free S E)`, `(reserved S E)` collect areas (64 each)".
-pub fn collect(areas: &mut [u64], counts: AreaCounts, area: Area) -> Collecting
+// Puts the area after those that are there, and hands back the counts with it; none where 64 of its kind are there. "`(free S E)`,
+// `(reserved S E)` collect areas (64 each)".
+#[tactic(auto, using(crate::proofs::Collected::fits))]
+pub fn collect(areas: &mut [u64], counts: AreaCounts, area: Area) -> Option<AreaCounts>
     requires { Room counts areas.old }
     ensures { Collects area counts areas.old result areas.new }
 {
     let kind = area.kind;
-    if 64 <= count_of(counts, kind) {
-        return Collecting::Full;
+    if 64 <= counts.of(kind) {
+        return None;
     }
-    let at = words_used(counts);
+    let at = counts.words_used();
     areas[at] = area.start;
     areas[at + 1] = area.end;
     areas[at + 2] = word_of(kind);
-    Collecting::Taken(one_more(counts, kind))
-}
-
-// How many words the areas take.
-pub fn words_used(counts: AreaCounts) -> usize
-    requires { Few counts }
-    ensures { result ≡ words_used counts }
-{
-    3 * (counts.general + counts.reserved)
-}
-
-fn count_of(counts: AreaCounts, kind: Kind) -> usize
-    ensures { result ≡ count_of kind counts }
-{
-    match kind {
-        Kind::General => counts.general,
-        Kind::Reserved => counts.reserved,
-    }
-}
-
-fn one_more(counts: AreaCounts, kind: Kind) -> AreaCounts
-    requires { Few counts }
-    ensures { result ≡ one_more kind counts }
-{
-    match kind {
-        Kind::General => AreaCounts {
-            general: counts.general + 1,
-            reserved: counts.reserved,
-        },
-        Kind::Reserved => AreaCounts {
-            general: counts.general,
-            reserved: counts.reserved + 1,
-        },
-    }
+    Some(counts.one_more(kind))
 }
 
 // "kind (general or reserved)", as a word: 0 is general.
+#[tactic(auto, unfolding(crate::specs::Areas::word_of))]
 fn word_of(kind: Kind) -> u64
     ensures { result ≡ word_of kind }
 {

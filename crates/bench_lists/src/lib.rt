@@ -5,7 +5,6 @@ ghost use Rattle.std.specs.Prelude.{◌≡◌, ◌+◌, ◌≤◌, length};
 ghost use Rattle.memory_structs.specs.Range.{range};
 ghost use Rattle.model.specs.Lists.{entries};
 ghost use Rattle.model.specs.Store.{load, slots_of, table_slots};
-ghost use Rattle.early.specs.Slots.{early_list_of};
 ghost use Rattle.lists.specs.One.{IsList, slots_in};
 ghost use Rattle.rules.specs.Check.{Ruled};
 ghost use Rattle.bench_texts.specs.Texts.{Puts};
@@ -14,7 +13,7 @@ ghost use Rattle.bench_lists.specs.ListLines.{entry_room, entries_room, line_roo
 use bench_texts::{put_range, put_text};
 use lists::{OneList, WhichList};
 use memory_structs::FrameRange;
-use model::FrameAllocator;
+use model::{EarlyList, FrameAllocator};
 
 // Puts the line at a place, and answers the place after it.
 pub fn put_list(
@@ -55,8 +54,7 @@ fn put_entries(out: &mut [u8], at: usize, l: OneList, t: &[u64]) -> usize
     if l.sorted {
         return put_table(out, at, t, l.len);
     }
-    let e = l.early;
-    put_slots(out, at, &e.starts, &e.ends, &e.used)
+    put_slots(out, at, &l.early)
 }
 
 fn put_table(out: &mut [u8], at: usize, t: &[u64], len: usize) -> usize
@@ -65,32 +63,22 @@ fn put_table(out: &mut [u8], at: usize, t: &[u64], len: usize) -> usize
     ensures { Puts (entries_text (entries (table_slots len t.now))) out.old at out.new result }
 {
     let mut next = at;
-    let mut i = 0;
-    while i < len {
+    for i in 0..len {
         next = put_entry(out, next, t[2 * i], t[2 * i + 1]);
-        i += 1;
     }
     next
 }
 
-fn put_slots<'a>(
-    out: &mut [u8],
-    at: usize,
-    starts: &'a [u64; 32],
-    ends: &'a [u64; 32],
-    used: &'a [bool; 32],
-) -> usize
-    requires used_len { length (slots_of (early_list_of starts.now ends.now used.now)) ≡ 32 }
+fn put_slots(out: &mut [u8], at: usize, l: &EarlyList) -> usize
+    requires used_len { length (slots_of l.now) ≡ 32 }
     requires entries_room_in_bounds { at + entries_room ≤ length out.old }
-    ensures { Puts (entries_text (entries (slots_of (early_list_of starts.now ends.now used.now)))) out.old at out.new result }
+    ensures { Puts (entries_text (entries (slots_of l.now))) out.old at out.new result }
 {
     let mut next = at;
-    let mut i = 0;
-    while i < 32 {
-        if used[i] {
-            next = put_entry(out, next, starts[i], ends[i]);
+    for i in 0..32 {
+        if l.used[i] {
+            next = put_entry(out, next, l.starts[i], l.ends[i]);
         }
-        i += 1;
     }
     next
 }

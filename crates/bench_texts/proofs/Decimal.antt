@@ -11,7 +11,7 @@ use borrow.Author.Tests.{leb-true, leb-false, lt-ltb, le-ltb, ltb-true, ltb-fals
 use Rattle.memory_structs.specs.declared.range.FrameRange.{FrameRange}
 use Rattle.io.specs.Digits.{hex_digit_ascii, last_digits, IsDigitCount}
 use Rattle.lines.specs.Words.{decimal_of}
-use Rattle.lines.specs.declared.Word.TheVariants.{Number}
+use Rattle.std.proofs.Common.{Some}
 use Rattle.lines.proofs.Meaning.{one_digit, next_digit}
 use Rattle.bench_texts.specs.Texts.{Puts, digits_text, decimal_text, range_text}
 
@@ -70,23 +70,23 @@ range_length opening closing r =
     simp length-append (omega (arith, at_most 20 r.start, at_most 20 r.end))
 
 -- one digit, or the tenth part's digits and one more
-one_or_more : (k n : ℕ) → n < 2 ^ 64 → (10 ≤ n → decimal_of (digits_text k (n / 10)) ≡ Number (n / 10)) → decimal_of (digits_text (suc k) n) ≡ Number n
+one_or_more : (k n : ℕ) → n < 2 ^ 64 → (10 ≤ n → decimal_of (digits_text k (n / 10)) ≡ Some (n / 10)) → decimal_of (digits_text (suc k) n) ≡ Some n
 unfolding digits_text
 one_or_more k n small tenth = go (ltb n 10) refl
   where
-    go : (t : Bool) → ltb n 10 ≡ t → decimal_of (cond t ((48 + n) ∷ []) (digits_text k (n / 10) ++ ((48 + n % 10) ∷ []))) ≡ Number n
+    go : (t : Bool) → ltb n 10 ≡ t → decimal_of (cond t ((48 + n) ∷ []) (digits_text k (n / 10) ++ ((48 + n % 10) ∷ []))) ≡ Some n
     go true e = one_digit n (omega (arith, ltb-true n 10 e))
     go false e =
         let large : 10 ≤ n = ltb-false n 10 e in
         next_digit (digits_text k (n / 10)) (n / 10) (n % 10) (omega arith) (omega arith) (tenth large)
-        ∙ ap (λ (m : ℕ). Number m) (div-add-mod' n 10)
+        ∙ ap (λ (m : ℕ). Some m) (div-add-mod' n 10)
 
-digits_back : (k n : ℕ) → n < 10 ^ suc k → n < 2 ^ 64 → decimal_of (digits_text (suc k) n) ≡ Number n
+digits_back : (k n : ℕ) → n < 10 ^ suc k → n < 2 ^ 64 → decimal_of (digits_text (suc k) n) ≡ Some n
 digits_back zero n fits small = one_or_more zero n small (λ large. absurd (omega arith))
 digits_back (suc k) n fits small =
     let p : 10 ^ suc (suc k) ≡ 10 * 10 ^ suc k = pow-succ' 10 (suc k) in
     one_or_more (suc k) n small (λ large. digits_back k (n / 10) (omega arith) (omega arith))
 
 -- what is written of a number below 2^64 is read as this number
-pub read_back : (n : ℕ) → n < 2 ^ 64 → decimal_of (decimal_text n) ≡ Number n
+pub read_back : (n : ℕ) → n < 2 ^ 64 → decimal_of (decimal_text n) ≡ Some n
 read_back n small = digits_back 19 n (omega arith) small

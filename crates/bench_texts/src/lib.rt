@@ -39,18 +39,17 @@ pub fn put_range(out: &mut [u8], at: usize, opening: &[u8], r: FrameRange, closi
 }
 
 // The line that a call prints, at the start of the buffer: "`(done)`, `(grant S E)` or `(no N)` with the refusal".
+#[tactic(auto, unfolding(crate::specs::Texts::answer_line))]
 pub fn write_answer(out: &mut [u8], answer: Answer) -> usize
     requires { 64 ≤ length out.old }
     ensures { Puts (answer_line answer) out.old 0 out.new result }
 {
-    if answer.number != 0 {
-        return write_refusal(out, answer.number);
-    }
     let range = answer.range;
-    if range.is_empty() {
-        return put_text(out, 0, b"(done)\n");
+    match answer.number {
+        0 if range.is_empty() => put_text(out, 0, b"(done)\n"),
+        0 => put_range(out, 0, b"(grant ", range, b")\n"),
+        number => write_refusal(out, number),
     }
-    put_range(out, 0, b"(grant ", range, b")\n")
 }
 
 fn write_refusal(out: &mut [u8], number: u64) -> usize
