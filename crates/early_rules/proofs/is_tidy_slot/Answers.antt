@@ -11,4 +11,4 @@ pub returns-then-end-gt-TOP : goal.returns-then-end-gt-TOP
 returns-then-end-gt-TOP c = slot_high c.args.t.now c.args.i c.requires.i_bound _ c.if-end-start.false c.if-end-gt-TOP.true
 
 pub returns : goal.returns
-returns c = ap not c.meets_later.ensures ∙ slot_used c.args.t.now c.args.i c.requires.i_bound _ c.if-end-start.false c.if-end-gt-TOP.false
+returns c = ap not c.contains_any_from.ensures ∙ slot_used c.args.t.now c.args.i c.requires.i_bound _ c.if-end-start.false c.if-end-gt-TOP.false
