@@ -113,8 +113,9 @@ fn on_entries(h: Header, lists: &mut [u64], operation: Operation) -> Answered
     requires { Ruled h lists.old }
     ensures { Does (answer (call_of operation) (lists_in h lists.old)) lists.old result lists.new }
 {
-    match operation {
+    let done = match operation {
         Operation::Allocate(request) => requests::meet_request(h, lists, request),
         Operation::Return(range) => returns::give_back(h, lists, range),
-    }
+    };
+    h.answered(done)
 }

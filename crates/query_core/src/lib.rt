@@ -14,7 +14,7 @@ ghost use Rattle.query_core.specs.Listed.{Listed};
 use entries::{Header, WhichList};
 use held::write_runs;
 use memory_structs::FrameRange;
-use model::{Answer, Kind};
+use model::{Answer, Kind, Refusal};
 
 // "the kind (0 general, 1 reserved: any frame in a reserved region)" (000, `into_unmapped_frames`). 2 comes first, for an empty range too.
 pub fn kind(h: Header, lists: &[u64], range: FrameRange) -> Answer
@@ -22,16 +22,16 @@ pub fn kind(h: Header, lists: &[u64], range: FrameRange) -> Answer
     ensures { result ≡ (kind_of range (lists_in h lists.now)).answer }
 {
     if range.is_above_top() {
-        return rules::without_frames(2, 0);
+        return Answer::from(Refusal::OutOfBounds);
     }
     // An empty range has no frame in a region.
     if range.is_empty() {
-        return rules::without_frames(0, 0);
+        return Answer::counted(0);
     }
-    if entries::meets_in(h, lists, WhichList::ReservedRegions, range.start, range.end) {
-        return rules::without_frames(0, 1);
+    if h.meets_in(lists, WhichList::ReservedRegions, range) {
+        return Answer::counted(1);
     }
-    rules::without_frames(0, 0)
+    Answer::counted(0)
 }
 
 // "**free total** of either free list"
@@ -40,11 +40,8 @@ pub fn free_total(h: Header, lists: &[u64], kind: Kind) -> Answer
     ensures { result ≡ (total kind (lists_in h lists.now)).answer }
 {
     let which = free_list(kind);
-    let size = entries::width(h.sorted);
-    let from = entries::part_of(size, which);
-    let len = entries::length_at(h, which);
-    let frames = entries::sum(h.sorted, len, &lists[from..from + size]);
-    rules::without_frames(0, frames)
+    let frames = h.part(which).sum(&lists[h.words_of(which)]);
+    Answer::counted(frames)
 }
 
 // The free list of a kind.
@@ -72,10 +69,10 @@ pub fn held_list(h: Header, lists: &[u64], buffer: &mut [u64]) -> Answer
             h.general_free,
             buffer,
         );
-        return rules::without_frames(0, count as u64);
+        return Answer::counted(count as u64);
     }
     let runs = write_from_pairs(&lists[128..192], &lists[0..64], buffer);
-    rules::without_frames(0, runs as u64)
+    Answer::counted(runs as u64)
 }
 
 // The same walk over early slots, put in order first: 64 words of the stack for each list.

@@ -2,7 +2,7 @@
 use Prim.Native.Nat.{ℕ, ◌+◌, ◌-◌, ◌≤◌, ◌<◌}
 use mathlib.Core.Path.{◌≡◌, refl, sym, ap, subst, ◌∙◌}
 use mathlib.Core.List.{List}
-use lib.ListN.{take, drop, take-append-drop}
+use lib.ListN.{take, drop}
 use borrow.Author.Tests.{lt-ltb, le-ltb, ltb-true, ltb-false}
 use borrow.Rule.Slice.PartMut.{put_mid}
 use Rattle.std.specs.Prelude.{Option, None, Some}
@@ -16,7 +16,7 @@ use Rattle.entries.specs.declared.header.Header.{Header}
 use Rattle.entries.specs.declared.header.Answered.{Answered}
 use Rattle.entries.specs.Part.{Stored, width, slots_of}
 use Rattle.entries.specs.Whole.{part_of, part_in, with_length, lists_in, slots_at, with_slots, header_of, entries_of, Ruled, Does, answered_with}
-use Rattle.entries.proofs.Whole.{lent_as, lent_from, lent_back, does_refuse}
+use Rattle.entries.proofs.Whole.{lent_as, lent_from, lent_back, same_part, does_refuse}
 use Rattle.request_search.specs.declared.Chosen.{Chosen}
 use Rattle.request_grants.specs.Grants.{Chooses, grant_of, entries_left, TakesOut}
 use Rattle.request_taking.specs.Takes.{taken, granted_with, AllStored}
@@ -58,10 +58,6 @@ pub lent_stored : (h : Header) (ws : List ℕ) → Ruled h ws → (w : WhichList
     → (s : List Slot) (n : ℕ) (after : List ℕ) → Stored h.sorted s n after
     → AllStored (with_slots w (lists_in h ws) s) ws (with_length w h n) (put_mid from (to - from) ws after)
 lent_stored h ws u w f t s n after st = let b = lent_back h ws u w f t s n after st in record { header = b.0; words = b.1 }
-
--- a part that stays as it was
-pub same_part : (from k : ℕ) (ws : List ℕ) → put_mid from k ws (take k (drop from ws)) ≡ ws
-same_part from k ws = rw (take-append-drop k (drop from ws), take-append-drop from ws)
 
 -- what a list lends for a request, and what that leaves
 module _ (h : Header) (ws : List ℕ) (u : Ruled h ws) (w : WhichList) (c : Chosen) (asked : FrameRange) {p : Part} {from to : ℕ} (q : p ≡ part_in w h) (f : from ≡ part_of (width h.sorted) w) (t : to ≡ part_of (width h.sorted) w + width h.sorted) where

@@ -2,7 +2,7 @@
 use Prim.Native.Nat.{ℕ, zero, suc, ◌+◌, ◌≤◌, ◌<◌}
 use native.Mathlib.Omega.{arith}
 use mathlib.Core.Path.{◌≡◌, refl, sym, ap, subst, ◌∙◌}
-use mathlib.Core.Bool.{Bool, true, false, not}
+use mathlib.Core.Bool.{Bool, true, false}
 use mathlib.Core.List.{List}
 use lib.ListN.{length}
 use lib.Dec.{ltb, eqb}
@@ -10,7 +10,7 @@ use borrow.Author.Tests.{lt-ltb, le-ltb, le-leb, lt-leb}
 use Rattle.memory_structs.specs.Range.{range}
 use Rattle.memory_structs.specs.declared.range.FrameRange.{FrameRange}
 use Rattle.model.specs.Lists.{Slot, entries, first_where, range_at, insert, insert_sorted, insert_early, replace_at, bound}
-use Rattle.std.specs.Prelude.{None, Some}
+use Rattle.std.specs.Prelude.{Option, None, Some}
 use Rattle.model.specs.Returns.{join_below, join_above, rejoin, given, no_place}
 use Rattle.model.specs.Store.{table_slots, table_words}
 use Rattle.model.proofs.Cover.{Hit, first_hit, sorted_count}
@@ -19,14 +19,12 @@ use Rattle.model.proofs.Stored.{table_length, table_used}
 use Rattle.model.proofs.Whole.{used_count}
 use Rattle.tables.specs.Words.{IsTable}
 use Rattle.tables.proofs.Search.{leb_same}
-use Rattle.tables.proofs.Table.{stored}
 use Rattle.model.specs.Store.{slot_words, length_in}
 use Rattle.model.proofs.Stored.{AllUsed, none, one}
-use Rattle.pairs.specs.Pairs.{pair_slots, IsPairs}
+use Rattle.pairs.specs.Pairs.{pair_slots}
 use Rattle.entries.specs.Part.{slots_in, part_words}
 use Rattle.entries.proofs.Forms.{at_sorted, at_early, length_replaced}
-use Rattle.return_joining.specs.declared.PutBack.{PutBack}
-use Rattle.return_joining.specs.Rejoins.{after_return, GoesBack}
+use Rattle.return_joining.specs.Rejoins.{GoesBack}
 
 replaced_used : (i : ℕ) (r : FrameRange) {s : List Slot} → AllUsed s → AllUsed (replace_at i r s)
 unfolding replace_at
@@ -75,20 +73,16 @@ module _ (r : FrameRange) (n : ℕ) (ws : List ℕ) (e : given true r (table_slo
   unfolding bound
   table_room h = one_more true r (table_slots n ws) e ∙ le-ltb 512 (length (entries (table_slots n ws)) + 1) (omega (arith, pairs))
 
--- a table: with a place, without one
+-- a table with a place
 module _ (r : FrameRange) (n : ℕ) (ws : List ℕ) (t : IsTable n ws) where
   pub table_goes : no_place true r (table_slots n ws) ≡ false → (x : List Slot) → given true r (table_slots n ws) ≡ x → (m : ℕ) (after : List ℕ) → m ≡ length x → after ≡ table_words x
-      → GoesBack true r (table_slots n ws) (record { placed = true; len = m }) after
-  unfolding after_return length_in part_words
-  table_goes e x same m after c w = record { placed = sym (ap not e); stored = rw (e, same) (record { len = c; words = w }) }
-
-  pub table_stays : no_place true r (table_slots n ws) ≡ true → GoesBack true r (table_slots n ws) (record { placed = false; len = n }) ws
-  unfolding after_return length_in part_words
-  table_stays e = record { placed = sym (ap not e); stored = rw e (record { len = sym (table_length n ws); words = sym (stored t) }) }
+      → GoesBack true r (table_slots n ws) ws (Some m) after
+  unfolding length_in part_words
+  table_goes e x same m after c w = (e, rw same (record { len = c; words = w }))
 
   -- a pair that is rewritten where it stands: no entry more, so that there is a place
   pub joined : (i : ℕ) (x : FrameRange) → given true r (table_slots n ws) ≡ replace_at i x (table_slots n ws)
-      → (y : FrameRange) → y ≡ x → (after : List ℕ) → after ≡ table_words (replace_at i y (table_slots n ws)) → GoesBack true r (table_slots n ws) (record { placed = true; len = n }) after
+      → (y : FrameRange) → y ≡ x → (after : List ℕ) → after ≡ table_words (replace_at i y (table_slots n ws)) → GoesBack true r (table_slots n ws) ws (Some n) after
   unfolding no_place given bound rejoin
   joined i x same y p after w =
       let s = table_slots n ws in
@@ -98,22 +92,18 @@ module _ (r : FrameRange) (n : ℕ) (ws : List ℕ) (t : IsTable n ws) where
 
 -- "Early: first empty slot."
 module _ (r : FrameRange) (ws : List ℕ) where
-  pub slots_full : IsPairs ws → 32 ≤ length (entries (pair_slots 32 ws)) → GoesBack false r (pair_slots 32 ws) (record { placed = false; len = 0 }) ws
-  unfolding after_return no_place bound length_in part_words
-  slots_full t h =
-      let e = le-leb 32 (length (entries (pair_slots 32 ws))) h in
-      record { placed = sym (ap not e); stored = rw e (record { len = refl; words = sym t.plain }) }
+  pub slots_full : 32 ≤ length (entries (pair_slots 32 ws)) → GoesBack false r (pair_slots 32 ws) ws None ws
+  unfolding no_place bound
+  slots_full h = (le-leb 32 (length (entries (pair_slots 32 ws))) h, refl)
 
-  pub slot_added : length (entries (pair_slots 32 ws)) < 32 → {after : List ℕ} → after ≡ slot_words (insert_early r (pair_slots 32 ws)) → GoesBack false r (pair_slots 32 ws) (record { placed = true; len = 0 }) after
-  unfolding after_return no_place bound given insert length_in part_words
-  slot_added h w =
-      let e = lt-leb 32 (length (entries (pair_slots 32 ws))) h in
-      record { placed = sym (ap not e); stored = rw e (record { len = refl; words = w }) }
+  pub slot_added : length (entries (pair_slots 32 ws)) < 32 → {after : List ℕ} → after ≡ slot_words (insert_early r (pair_slots 32 ws)) → GoesBack false r (pair_slots 32 ws) ws (Some 0) after
+  unfolding no_place bound given insert length_in part_words
+  slot_added h w = (lt-leb 32 (length (entries (pair_slots 32 ws))) h, record { len = refl; words = w })
 
 -- the form that the list has
-module _ {r : FrameRange} (n : ℕ) (ws : List ℕ) {after : List ℕ} {g : PutBack} {b : Bool} where
-  pub by_table : b ≡ true → GoesBack true r (table_slots n ws) g after → GoesBack b r (slots_in b n ws) g after
-  by_table e x = subst (λ (y : Bool × List Slot). GoesBack y.0 r y.1 g after) (sym (at_sorted (λ c s. (c, s)) n ws e)) x
+module _ (r : FrameRange) (n : ℕ) (ws : List ℕ) (after : List ℕ) (g : Option ℕ) {b : Bool} where
+  pub by_table : b ≡ true → GoesBack true r (table_slots n ws) ws g after → GoesBack b r (slots_in b n ws) ws g after
+  by_table e x = subst (λ (y : Bool × List Slot). GoesBack y.0 r y.1 ws g after) (sym (at_sorted (λ c s. (c, s)) n ws e)) x
 
-  pub by_slots : b ≡ false → GoesBack false r (pair_slots 32 ws) g after → GoesBack b r (slots_in b n ws) g after
-  by_slots e x = subst (λ (y : Bool × List Slot). GoesBack y.0 r y.1 g after) (sym (at_early (λ c s. (c, s)) n ws e)) x
+  pub by_slots : b ≡ false → GoesBack false r (pair_slots 32 ws) ws g after → GoesBack b r (slots_in b n ws) ws g after
+  by_slots e x = subst (λ (y : Bool × List Slot). GoesBack y.0 r y.1 ws g after) (sym (at_early (λ c s. (c, s)) n ws e)) x

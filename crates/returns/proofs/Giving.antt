@@ -5,21 +5,22 @@ use mathlib.Core.Bool.{Bool, true, false}
 use mathlib.Core.List.{List}
 use lib.ListN.{take, drop}
 use borrow.Rule.Slice.PartMut.{put_mid}
+use Rattle.std.specs.Prelude.{Option, None, Some}
 use Rattle.memory_structs.specs.Range.{is_empty, above_top, meets}
 use Rattle.memory_structs.specs.declared.range.FrameRange.{FrameRange}
 use Rattle.memory_structs.proofs.Bools.{if_cases}
 use Rattle.model.specs.Lists.{Lists, Slot, entries, any_of, in_union}
-use Rattle.model.specs.Requests.{Result, refused, counted}
-use Rattle.model.specs.Returns.{no_place, give_general, give_reserved, give_back}
+use Rattle.model.specs.Requests.{Result, without_frames, refused, counted}
+use Rattle.model.specs.Returns.{given, no_place, give_general, give_reserved, give_back}
+use Rattle.entries.specs.declared.Part.{Part}
 use Rattle.entries.specs.declared.header.WhichList.{WhichList}
 use Rattle.entries.specs.declared.header.WhichList.TheVariants.{GeneralFree, ReservedFree}
 use Rattle.entries.specs.declared.header.Header.{Header}
 use Rattle.entries.specs.declared.header.Answered.{Answered}
-use Rattle.entries.specs.Part.{Stored, width, slots_in}
-use Rattle.entries.specs.Whole.{part_of, length_at, with_length, lists_in, slots_at, with_slots, header_of, entries_of, Ruled, Does, refused_with, accepted_with}
-use Rattle.entries.proofs.Whole.{same_slots, header_kept, lent_slots, lent_back}
-use Rattle.return_joining.specs.declared.PutBack.{PutBack}
-use Rattle.return_joining.specs.Rejoins.{after_return, GoesBack}
+use Rattle.entries.specs.Part.{width, slots_of}
+use Rattle.entries.specs.Whole.{part_of, part_in, with_length, lists_in, slots_at, with_slots, Ruled, Does, answered_with}
+use Rattle.entries.proofs.Whole.{lent_from, lent_back, same_part, does_refuse}
+use Rattle.return_joining.specs.Rejoins.{GoesBack}
 use Rattle.returns.specs.Given.{any_free, given_to}
 
 module _ (r : FrameRange) (l : Lists) where
@@ -80,30 +81,28 @@ same_form r l =
     if_cases P (in_union (entries l.general_regions) r) (λ _. if_cases P (no_place l.sorted r l.general_free) (λ _. refl) (λ _. refl)) (λ _.
     if_cases P (in_union (entries l.reserved_regions) r) (λ _. if_cases P (no_place l.sorted r l.reserved_free) (λ _. refl) (λ _. refl)) (λ _. refl)))))
 
--- what the list stores stands in the header and the entries, with a place and without one
-module _ (w : WhichList) (r : FrameRange) (h : Header) (ws : List ℕ) {h' : Header} {after : List ℕ}
-    (st : (h' ≡ header_of (with_slots w (lists_in h ws) (after_return h.sorted r (slots_at w (lists_in h ws))))) × (after ≡ entries_of (with_slots w (lists_in h ws) (after_return h.sorted r (slots_at w (lists_in h ws)))) ws)) where
-  pub no_place_holds : (d : Answered) → Ruled h ws → no_place h.sorted r (slots_at w (lists_in h ws)) ≡ true → d ≡ refused_with 18 h → Does (given_to w r (lists_in h ws)) ws d after
-  unfolding given_to after_return lists_in refused
-  no_place_holds d u full e = rw full (record {
-    answers = ap (λ (x : Answered). x.answer) e;
-    header = ap (λ (x : Answered). x.header) e ∙ header_kept h ws u;
-    words = st.1 ∙ ap (λ (x : List Slot). entries_of (with_slots w (lists_in h ws) x) ws) (rw full) ∙ ap (λ (l : Lists). entries_of l ws) (same_slots w (lists_in h ws));
-  })
+-- a return to one list, in its own part, with a place and without one
+module _ (r : FrameRange) (h : Header) (ws : List ℕ) (u : Ruled h ws) (w : WhichList) {p : Part} {from to : ℕ} (q : p ≡ part_in w h) (f : from ≡ part_of (width h.sorted) w) (t : to ≡ part_of (width h.sorted) w + width h.sorted) where
+  abbrev lent : List ℕ
+  lent = take (to - from) (drop from ws)
 
-  pub a_place : (d : Answered) → no_place h.sorted r (slots_at w (lists_in h ws)) ≡ false → d ≡ accepted_with 0 h' → Does (given_to w r (lists_in h ws)) ws d after
-  unfolding given_to after_return lists_in counted
-  a_place d room e = rw room (record {
-    answers = ap (λ (x : Answered). x.answer) e;
-    header = ap (λ (x : Answered). x.header) e ∙ st.0 ∙ ap (λ (x : List Slot). header_of (with_slots w (lists_in h ws) x)) (rw room);
-    words = st.1 ∙ ap (λ (x : List Slot). entries_of (with_slots w (lists_in h ws) x) ws) (rw room);
-  })
+  abbrev slots : List Slot
+  slots = slots_at w (lists_in h ws)
 
--- a return in the lent part of a list, put back
-pub lent_stored : (r : FrameRange) (h : Header) (ws : List ℕ) (u : Ruled h ws) (w : WhichList) {k from n : ℕ} (e : k ≡ width h.sorted) (p : from ≡ part_of k w) (q : n ≡ length_at w h) {g : PutBack} {after : List ℕ}
-    → GoesBack h.sorted r (slots_in h.sorted n (take ((from + k) - from) (drop from ws))) g after
-    → (with_length w h g.len ≡ header_of (with_slots w (lists_in h ws) (after_return h.sorted r (slots_at w (lists_in h ws)))))
-    × (put_mid from ((from + k) - from) ws after ≡ entries_of (with_slots w (lists_in h ws) (after_return h.sorted r (slots_at w (lists_in h ws)))) ws)
-lent_stored r h ws u w e p q {g = g} {after = after} x =
-    lent_back h ws u w e p (after_return h.sorted r (slots_at w (lists_in h ws))) g.len after
-    (subst (λ (s : List Slot). Stored h.sorted (after_return h.sorted r s) g.len after) (lent_slots h ws u w e p q) x.stored)
+  module _ (g : Option ℕ) (after : List ℕ) (x : GoesBack p.sorted r (slots_of p lent) lent g after) where
+    here : GoesBack h.sorted r slots lent g after
+    here = lent_from h ws u w q f t (λ b s. GoesBack b r s lent g after) x
+
+    pub no_place_holds : g ≡ None → Does (given_to w r (lists_in h ws)) ws (answered_with (without_frames 18 0) h) (put_mid from (to - from) ws after)
+    unfolding given_to lists_in
+    no_place_holds e =
+        let z = subst (λ (o : Option ℕ). GoesBack h.sorted r slots lent o after) e here in
+        subst (Does (given_to w r (lists_in h ws)) ws (answered_with (without_frames 18 0) h)) (sym (ap (put_mid from (to - from) ws) z.1 ∙ same_part from (to - from) ws))
+        (does_refuse h ws u 18 _ (rw z.0))
+
+    pub a_place : (n : ℕ) → g ≡ Some n → (d : Answered) → d ≡ answered_with (without_frames 0 0) (with_length w h n) → Does (given_to w r (lists_in h ws)) ws d (put_mid from (to - from) ws after)
+    unfolding given_to lists_in counted
+    a_place n e d y =
+        let z = subst (λ (o : Option ℕ). GoesBack h.sorted r slots lent o after) e here in
+        let b = lent_back h ws u w f t (given h.sorted r slots) n after z.1 in
+        rw (y, z.0) (record { answers = refl; header = b.0; words = b.1 })

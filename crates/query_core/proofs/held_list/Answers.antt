@@ -23,7 +23,7 @@ write_runs-count-requires c = let ws = c.args.lists.now in
 pub returns-then-h : goal.returns-then-h
 returns-then-h c = let h = c.args.h in
     let ws = c.args.lists.now in
-    is_listed h ws c.requires.ruled (sorted_written h ws c.requires.ruled c.if-h.true c.write_runs-count.ensures) c.without_frames.ensures
+    is_listed h ws c.requires.ruled (sorted_written h ws c.requires.ruled c.if-h.true c.write_runs-count.ensures) c.counted.ensures
 
 pub slice_bounds-write_from_pairs-end : goal.slice_bounds-write_from_pairs-end
 slice_bounds-write_from_pairs-end c = omega (arith, early_long c.args.h c.args.lists.now c.requires.ruled c.if-h.false)
@@ -43,4 +43,4 @@ write_from_pairs-runs-requires c = let h = c.args.h in
 pub returns : goal.returns
 returns c = let h = c.args.h in
     let ws = c.args.lists.now in
-    is_listed h ws c.requires.ruled (early_written h ws c.requires.ruled c.if-h.false c.write_from_pairs-runs.ensures) c.without_frames-2.ensures
+    is_listed h ws c.requires.ruled (early_written h ws c.requires.ruled c.if-h.false c.write_from_pairs-runs.ensures) c.counted-2.ensures

@@ -9,13 +9,13 @@ use Rattle.query_core.proofs.kind.Goals as goal
 
 pub returns-then-is_above_top : goal.returns-then-is_above_top
 returns-then-is_above_top c = let a = c.args in
-    c.without_frames.ensures ∙ kind_above a.range (lists_in a.h a.lists.now) (sym c.is_above_top.ensures ∙ c.if-is_above_top.true)
+    c.from.ensures ∙ kind_above a.range (lists_in a.h a.lists.now) (sym c.is_above_top.ensures ∙ c.if-is_above_top.true)
 
 pub returns-then-is_empty : goal.returns-then-is_empty
 returns-then-is_empty c =
     let low : above_top c.args.range ≡ false = sym c.is_above_top.ensures ∙ c.if-is_above_top.false in
     let a = c.args in
-    c.without_frames-then-is_empty.ensures ∙ kind_empty a.range (lists_in a.h a.lists.now) low (sym c.is_empty.ensures ∙ c.if-is_empty.true)
+    c.counted.ensures ∙ kind_empty a.range (lists_in a.h a.lists.now) low (sym c.is_empty.ensures ∙ c.if-is_empty.true)
 
 pub meets_in-requires : goal.meets_in-requires
 meets_in-requires c = record {
@@ -28,7 +28,7 @@ unfolding slots_at
 returns-then-meets_in c =
     let low : above_top c.args.range ≡ false = sym c.is_above_top.ensures ∙ c.if-is_above_top.false in
     let a = c.args in
-    c.without_frames-then-meets_in.ensures
+    c.counted-then-meets_in.ensures
     ∙ kind_reserved a.range (lists_in a.h a.lists.now) low (sym c.meets_in.ensures ∙ c.if-meets_in.true)
 
 pub returns : goal.returns
@@ -36,5 +36,5 @@ unfolding slots_at
 returns c =
     let low : above_top c.args.range ≡ false = sym c.is_above_top.ensures ∙ c.if-is_above_top.false in
     let a = c.args in
-    c.without_frames-2.ensures
+    c.counted-2.ensures
     ∙ kind_general a.range (lists_in a.h a.lists.now) low (sym c.meets_in.ensures ∙ c.if-meets_in.false)

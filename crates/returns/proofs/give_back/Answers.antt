@@ -6,21 +6,21 @@ use mathlib.Core.Bool.{false}
 use borrow.Author.Tests.{ltb-false}
 use Rattle.memory_structs.specs.Range.{is_empty, above_top, top}
 use Rattle.entries.specs.Whole.{lists_in, slots_at}
-use Rattle.entries.proofs.Whole.{does_refuse, does_leave, does_as}
+use Rattle.entries.proofs.Whole.{does_refuse, does_count, does_as}
 use Rattle.returns.specs.Given.{any_free}
 use Rattle.returns.proofs.Giving.{nothing_given, above_top_holds, free_before, in_general_holds, in_reserved_holds, in_neither}
 use Rattle.returns.proofs.give_back.Goals as goal
 
 pub returns-then-is_empty : goal.returns-then-is_empty
 returns-then-is_empty c = let a = c.args in
-    does_leave a.h a.lists.now c.requires 0 _ c.accepted.ensures _
-    (nothing_given a.range (lists_in a.h a.lists.now) c.is_empty.ensures c.if-is_empty.true)
+    rw c.counted.ensures (does_count a.h a.lists.now c.requires 0 _
+    (nothing_given a.range (lists_in a.h a.lists.now) c.is_empty.ensures c.if-is_empty.true))
 
 pub returns-then-is_above_top : goal.returns-then-is_above_top
 returns-then-is_above_top c =
     let filled : is_empty c.args.range ≡ false = sym c.is_empty.ensures ∙ c.if-is_empty.false in
     let a = c.args in
-    does_refuse a.h a.lists.now c.requires 2 _ c.refused.ensures _
+    does_refuse a.h a.lists.now c.requires 2 _
     (above_top_holds a.range (lists_in a.h a.lists.now) filled c.is_above_top.ensures c.if-is_above_top.true)
 
 pub is_any_free-requires : goal.is_any_free-requires
@@ -36,7 +36,7 @@ returns-then-is_any_free c =
     let filled : is_empty c.args.range ≡ false = sym c.is_empty.ensures ∙ c.if-is_empty.false in
     let low : above_top c.args.range ≡ false = sym c.is_above_top.ensures ∙ c.if-is_above_top.false in
     let a = c.args in
-    does_refuse a.h a.lists.now c.requires 19 _ c.refused-then-is_any_free.ensures _
+    does_refuse a.h a.lists.now c.requires 19 _
     (free_before a.range (lists_in a.h a.lists.now) filled low c.is_any_free.ensures c.if-is_any_free.true)
 
 pub covers_in-requires : goal.covers_in-requires
@@ -100,5 +100,5 @@ returns c =
     let low : above_top c.args.range ≡ false = sym c.is_above_top.ensures ∙ c.if-is_above_top.false in
     let held : let a = c.args in any_free a.range (lists_in a.h a.lists.now) ≡ false = sym c.is_any_free.ensures ∙ c.if-is_any_free.false in
     let a = c.args in
-    does_refuse a.h a.lists.now c.requires 19 _ c.refused-2.ensures _
+    does_refuse a.h a.lists.now c.requires 19 _
     (in_neither a.range (lists_in a.h a.lists.now) filled low held c.covers_in.ensures c.if-covers_in.false c.covers_in-2.ensures c.if-covers_in-2.false)
