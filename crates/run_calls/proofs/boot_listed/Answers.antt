@@ -4,7 +4,7 @@ use mathlib.Core.Path.{subst}
 use mathlib.Core.List.{List}
 use Prim.Native.Nat.{ℕ}
 use Rattle.model.specs.Calls.{Gives}
-use Rattle.boot.specs.Boots.{boot_call_of}
+use Rattle.areas.specs.Boots.{boot_call_of}
 use Rattle.run_calls.proofs.Making.{areas_end, areas_part}
 use Rattle.run_calls.proofs.boot_listed.Goals as goal
 
