@@ -41,7 +41,7 @@ pub trait BootMap {
     ghost bounded: { (m : Self) → Bounded (areas m) };
 }
 
-// An area of a map that is a slice of areas.
+// An area of a map that is a slice of areas. A trait and no `From`, whose clause is a relation: the laws need a function to `map`.
 pub trait MapArea: Copy {
     ghost taken: { Self → BootArea };
 

@@ -53,6 +53,7 @@ pub fn boot_map<M: BootMap>(a: FrameAllocator, map: &M, words: &[u64]) -> Called
     boot_ruled(a, map, words)
 }
 
+// The same of a record that keeps the rules.
 fn boot_ruled<M: BootMap>(a: FrameAllocator, map: &M, words: &[u64]) -> Called
     requires { Ruled a words.now }
     ensures { Gives (M.call map.now) a words.now result words.now }

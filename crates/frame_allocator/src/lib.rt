@@ -21,8 +21,7 @@ pub use run::{Ending, Ran, RunEnd};
 pub fn init(a: &mut FrameAllocator, areas: &[Area], words: &[u64]) -> Answer
     ensures { Gives (boot_call areas.now) a.old words.now (answered_with result a.new) words.now }
 {
-    let survey = maps::frame_map::survey(areas);
-    let booted = boot::boot_surveyed(*a, survey, words);
+    let booted = boot::boot_map(*a, &areas, words);
     *a = booted.allocator;
     booted.answer
 }
@@ -31,8 +30,7 @@ pub fn init(a: &mut FrameAllocator, areas: &[Area], words: &[u64]) -> Answer
 pub fn init_from_bytes(a: &mut FrameAllocator, areas: &[ByteArea], words: &[u64]) -> Answer
     ensures { Gives (boot_bytes_call areas.now) a.old words.now (answered_with result a.new) words.now }
 {
-    let survey = maps::byte_map::survey(areas);
-    let booted_in_bytes = boot::boot_surveyed(*a, survey, words);
+    let booted_in_bytes = boot::boot_map(*a, &areas, words);
     *a = booted_in_bytes.allocator;
     booted_in_bytes.answer
 }

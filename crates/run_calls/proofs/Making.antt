@@ -24,7 +24,7 @@ use Rattle.rules.specs.Check.{checked, refused_with}
 use Rattle.rules.proofs.Numbers.{short_call, gives_refused}
 use Rattle.rules.specs.Check as rules
 use Rattle.rules.proofs.Going.{gives_does}
-use Rattle.boot.specs.Boots.{boot_call_of}
+use Rattle.areas.specs.Boots.{boot_call_of}
 use Rattle.areas.specs.declared.AreaUnit.{AreaUnit}
 use Rattle.areas.specs.declared.AreaUnit.TheVariants as unit
 use Rattle.query_core.specs.Listed as query

@@ -5,7 +5,7 @@ use Rattle.memory_structs.specs.Range.{range}
 use Rattle.model.specs.Calls.{Call, sort_call, return_call, kind_call, total_call, held_call}
 use Rattle.areas.specs.Areas.{kind_of_word}
 use Rattle.areas.specs.declared.AreaUnit.{AreaUnit}
-use Rattle.boot.specs.Boots.{boot_call_of}
+use Rattle.areas.specs.Boots.{boot_call_of}
 use Rattle.requests.specs.Asked as asked
 use Rattle.areas.specs.declared.AreaUnit.TheVariants as unit
 use Rattle.requests.specs.declared.Request.TheVariants.{Frames, Bytes, FramesAt, BytesAt, GeneralFramesAt}

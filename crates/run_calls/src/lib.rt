@@ -4,7 +4,7 @@
 ghost use Rattle.std.specs.Prelude.{◌≡◌, true, length};
 ghost use Rattle.model.specs.Calls.{Gives};
 ghost use Rattle.rules.specs.Check.{checked, Ruled};
-ghost use Rattle.boot.specs.Boots.{boot_call_of};
+ghost use Rattle.areas.specs.Boots.{boot_call_of};
 ghost use Rattle.entries.specs.Whole as whole;
 ghost use Rattle.packing.specs.Open.{lent};
 ghost use Rattle.run_calls.specs.Commands as spec;

@@ -6,7 +6,7 @@ use Prim.Native.Nat.{ℕ}
 use Rattle.model.specs.Calls.{Gives}
 use Rattle.model.specs.declared.Called.{Called}
 use Rattle.rules.proofs.Numbers.{checked_ruled, gives_refused}
-use Rattle.boot.specs.Boots.{boot_call_of}
+use Rattle.areas.specs.Boots.{boot_call_of}
 use Rattle.run_calls.specs.Commands.{form_call}
 use Rattle.run_calls.proofs.Making.{boot_in_list, areas_end, areas_part, form_long, boot_gives, sort_gives}
 use Rattle.run_calls.proofs.change_form.Goals as goal
