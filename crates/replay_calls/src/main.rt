@@ -36,11 +36,9 @@ mod written;
 
 ghost use Rattle.std.specs.Prelude.{◌≤◌, length};
 
-use model::FrameAllocator;
-
 // Reads up to 262,144 bytes of text.
 fn main() {
-    let mut text = reading::text_buffer();
+    let mut text = [0; 262144];
     let n = io::read_full(0, &mut text);
     // Room for 40 areas, so that 33 reserved ones or 33 pieces fit.
     let mut numbers = [0; 120];
@@ -53,43 +51,11 @@ fn replay(text: &[u8], words: &mut [u64], numbers: &mut [u64])
     requires { 4096 ≤ length words.old }
 {
     let mut a = lists::fresh();
-    let mut at = 0;
-    while at < text.len() {
-        let end = lines::find(text, at, text.len(), b'\n');
-        a = answer_line(a, words, &text[at..end], numbers);
-        at = end + 1;
+    for line in text.split_inclusive(|b| *b == b'\n') {
+        let line = line.strip_suffix(b"\n").unwrap_or(line);
+        match reading::read_line(line, numbers) {
+            Some(line) => a = lines_called::answer(a, words, line),
+            None => written::bad(),
+        }
     }
-}
-
-// Answers the line, and hands back the record after it.
-fn answer_line(
-    a: FrameAllocator,
-    words: &mut [u64],
-    line: &[u8],
-    numbers: &mut [u64],
-) -> FrameAllocator
-    requires { 4096 ≤ length words.old }
-{
-    let first_end = lines::find(line, 0, line.len(), b' ');
-    let way = reading::way_of(&line[..first_end]);
-    let from = reading::call_start(way, first_end, line.len());
-    answer_call(a, words, way, &line[from..], numbers)
-}
-
-fn answer_call(
-    a: FrameAllocator,
-    words: &mut [u64],
-    way: usize,
-    line: &[u8],
-    numbers: &mut [u64],
-) -> FrameAllocator
-    requires { 4096 ≤ length words.old }
-{
-    let name_end = lines::find(line, 0, line.len(), b' ');
-    let name = &line[..name_end];
-    let asked = reading::asked_by(line, name);
-    let read = lines::read_words(line, name_end, reading::layout_of(asked), numbers);
-    let len = read.len;
-    let numbers = &numbers[..len];
-    lines_called::answer(a, words, way, reading::checked(asked, read), numbers)
 }

@@ -1,143 +1,132 @@
-// What a line asks for: see `main`. A word is known by its place among some words; a plain number keeps the proofs of what handles it
-// small, where an enum with values is spelt out at each step.
-ghost use Rattle.std.specs.Prelude.{◌≤◌, ◌≡◌, length};
+// What a line asks for: see `main`.
+use lines::Layout;
+use memory_structs::FrameRange;
+use model::Kind;
+use requests::Request;
 
-use lines::{Layout, Reading};
-
-// What a call is made with: a short workspace, a broken record, a broken workspace; or the record and the workspace as they are.
-pub const SHORT: usize = 0;
-
-pub const BROKEN_SLOT: usize = 1;
-
-pub const BROKEN_WORD: usize = 2;
-
-pub const PLAIN: usize = 3;
-
-// Lines that are known whole, then those that have numbers, then any other.
-pub const FRESH: usize = 0;
-
-pub const LISTS: usize = 1;
-
-pub const SORT: usize = 2;
-
-pub const TOTAL_GENERAL: usize = 3;
-
-pub const TOTAL_RESERVED: usize = 4;
-
-pub const HELD: usize = 5;
-
-pub const HELD_SHORT: usize = 6;
-
-pub const BOOT: usize = 7;
-
-pub const BOOT_BYTES: usize = 8;
-
-pub const COUNT: usize = 9;
-
-pub const COUNT_BYTES: usize = 10;
-
-pub const AT: usize = 11;
-
-pub const AT_BYTES: usize = 12;
-
-pub const GENERAL_AT: usize = 13;
-
-pub const RETURN: usize = 14;
-
-pub const KIND: usize = 15;
-
-pub const NOTHING: usize = 16;
-
-// Room for the text. Only its length is known, so that no proof spells the bytes out.
-pub fn text_buffer() -> [u8; 262144]
-    ensures { 262144 ≡ length result }
-{
-    [0; 262144]
+// A line that is known.
+#[derive(Clone, Copy)]
+pub enum Line<'a> {
+    Fresh,
+    Lists,
+    Call(Way, Call<'a>),
 }
 
-// The way that the line's first word names; a line that begins with its call is plain.
-pub fn way_of(word: &[u8]) -> usize {
-    place_of(word, b"short,broken_slot,broken_word")
+// What a call is made with: the record and the workspace as they are; or a short workspace, a broken record, a broken workspace.
+#[derive(Clone, Copy)]
+pub enum Way {
+    Plain,
+    Short,
+    BrokenSlot,
+    BrokenWord,
 }
 
-// Where the call begins: past the word for the way and its space, if there are any.
-pub fn call_start(way: usize, first_end: usize, len: usize) -> usize
-    ensures { result ≤ len }
-{
-    if way == PLAIN {
-        return 0;
-    }
-    if first_end < len {
-        return first_end + 1;
-    }
-    len
+#[derive(Clone, Copy)]
+pub enum Call<'a> {
+    Boot(&'a [u64]),
+    BootBytes(&'a [u64]),
+    Sort,
+    Allocate(Request),
+    Return(FrameRange),
+    KindOf(FrameRange),
+    Total(Kind),
+    Held,
+    HeldShort,
 }
 
-// What the line asks for by itself, or by its name with numbers after it.
-pub fn asked_by(line: &[u8], name: &[u8]) -> usize {
-    let whole = place_of(
-        line,
-        b"fresh,lists,sort,total general,total reserved,held,held_short",
-    );
-    if whole < BOOT {
-        return whole;
-    }
-    named(place_of(
-        name,
-        b"boot,boot_bytes,count,count_bytes,at,at_bytes,general_at,return,kind",
-    ))
-}
-
-fn named(place: usize) -> usize {
-    if place < 9 { BOOT + place } else { NOTHING }
-}
-
-pub fn layout_of(asked: usize) -> Layout {
-    if is_boot(asked) {
-        Layout::Areas
-    } else {
-        Layout::Numbers
-    }
-}
-
-fn is_boot(asked: usize) -> bool {
-    asked == BOOT || asked == BOOT_BYTES
-}
-
-// What is asked for, if it takes the words that were read.
-pub fn checked(asked: usize, read: Reading) -> usize {
-    if takes(asked, read) { asked } else { NOTHING }
-}
-
-fn takes(asked: usize, read: Reading) -> bool {
-    if asked < BOOT {
-        return true;
-    }
-    if is_boot(asked) {
-        return lines::are_areas(read);
-    }
-    if asked < AT {
-        return read.valid && read.len == 1;
-    }
-    read.valid && read.len == 2
-}
-
-// The number at a place, or 0 where there is none.
-pub fn number_at(numbers: &[u64], i: usize) -> u64 {
-    if i < numbers.len() { numbers[i] } else { 0 }
-}
-
-// The place of a word among words that commas part, or how many these are where it is none of them.
-fn place_of(word: &[u8], words: &[u8]) -> usize {
-    let mut place = 0;
-    let mut at = 0;
-    while at < words.len() {
-        let end = lines::find(words, at, words.len(), b',');
-        if check::same(word, &words[at..end]) {
-            return place;
+// None for a line that is no call.
+pub fn read_line<'a>(line: &[u8], numbers: &'a mut [u64]) -> Option<Line<'a>> {
+    match line {
+        b"fresh" => Some(Line::Fresh),
+        b"lists" => Some(Line::Lists),
+        _ => {
+            let (way, call) = way_of(line);
+            Some(Line::Call(way, read_call(call, numbers)?))
         }
-        place += 1;
-        at = end + 1;
     }
-    place
+}
+
+// The way that the line's first word names, and the call after it; a line that begins with its call is plain.
+fn way_of(line: &[u8]) -> (Way, &[u8]) {
+    if let Some(call) = line.strip_prefix(b"short ") {
+        (Way::Short, call)
+    } else if let Some(call) = line.strip_prefix(b"broken_slot ") {
+        (Way::BrokenSlot, call)
+    } else if let Some(call) = line.strip_prefix(b"broken_word ") {
+        (Way::BrokenWord, call)
+    } else {
+        (Way::Plain, line)
+    }
+}
+
+fn read_call<'a>(call: &[u8], numbers: &'a mut [u64]) -> Option<Call<'a>> {
+    match call {
+        b"sort" => Some(Call::Sort),
+        b"total general" => Some(Call::Total(Kind::General)),
+        b"total reserved" => Some(Call::Total(Kind::Reserved)),
+        b"held" => Some(Call::Held),
+        b"held_short" => Some(Call::HeldShort),
+        _ => with_numbers(call, numbers),
+    }
+}
+
+// A name, and the numbers after it.
+fn with_numbers<'a>(call: &[u8], numbers: &'a mut [u64]) -> Option<Call<'a>> {
+    let name_end = call.iter().position(|b| *b == b' ').unwrap_or(call.len());
+    match &call[..name_end] {
+        b"boot" => Some(Call::Boot(areas(call, name_end, numbers)?)),
+        b"boot_bytes" => Some(Call::BootBytes(areas(call, name_end, numbers)?)),
+        name => {
+            let read = lines::read_words(call, name_end, Layout::Numbers, numbers);
+            if !read.valid {
+                return None;
+            }
+            of_numbers(name, &numbers[..read.len])
+        }
+    }
+}
+
+fn areas<'a>(call: &[u8], name_end: usize, numbers: &'a mut [u64]) -> Option<&'a [u64]> {
+    let read = lines::read_words(call, name_end, Layout::Areas, numbers);
+    if read.are_areas() {
+        Some(&numbers[..read.len])
+    } else {
+        None
+    }
+}
+
+fn of_numbers<'a>(name: &[u8], numbers: &[u64]) -> Option<Call<'a>> {
+    match *numbers {
+        [n] => of_one(name, n),
+        [first, second] => of_two(name, first, second),
+        _ => None,
+    }
+}
+
+fn of_one<'a>(name: &[u8], n: u64) -> Option<Call<'a>> {
+    match name {
+        b"count" => Some(Call::Allocate(Request::Frames { num_frames: n })),
+        b"count_bytes" => Some(Call::Allocate(Request::Bytes { num_bytes: n })),
+        _ => None,
+    }
+}
+
+fn of_two<'a>(name: &[u8], start: u64, n: u64) -> Option<Call<'a>> {
+    match name {
+        b"at" => Some(Call::Allocate(Request::FramesAt {
+            frame: start,
+            num_frames: n,
+        })),
+        b"at_bytes" => Some(Call::Allocate(Request::BytesAt {
+            address: start,
+            num_bytes: n,
+        })),
+        b"general_at" => Some(Call::Allocate(Request::GeneralFramesAt {
+            frame: start,
+            num_frames: n,
+        })),
+        b"return" => Some(Call::Return(FrameRange::new(start, n))),
+        b"kind" => Some(Call::KindOf(FrameRange::new(start, n))),
+        _ => None,
+    }
 }

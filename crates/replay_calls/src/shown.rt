@@ -2,7 +2,6 @@
 ghost use Rattle.std.specs.Prelude.{◌≤◌, length};
 
 use crate::written;
-use lists::{OneList, WhichList};
 use memory_structs::FrameRange;
 use model::{Answer, EarlyList, FrameAllocator};
 
@@ -70,84 +69,55 @@ pub fn runs(answer: Answer, buffer: &[u64]) {
 }
 
 // The form and the four lists by name, each in stored order as starts and ends.
-pub fn record(a: FrameAllocator, words: &[u64])
+pub fn record(a: &FrameAllocator, words: &[u64])
     requires { 4096 ≤ length words.now }
 {
-    put_form(a.sorted);
-    put_free(a, words);
-    put_regions(a, words);
+    if a.sorted {
+        sorted(a, words);
+    } else {
+        early(a);
+    }
 }
 
-// Each of the two lists of frames that are free, with its part of the words.
-fn put_free(a: FrameAllocator, words: &[u64])
+fn sorted(a: &FrameAllocator, words: &[u64])
     requires { 4096 ≤ length words.now }
 {
-    written::text(b" general_free");
-    put_list(lists::list_of(a, WhichList::GeneralFree), &words[0..1024]);
+    written::text(b"sorted general_free");
+    put_pairs(&words[..1024], a.general_free_len);
     written::text(b" reserved_free");
-    put_list(
-        lists::list_of(a, WhichList::ReservedFree),
-        &words[1024..2048],
-    );
-}
-
-fn put_regions(a: FrameAllocator, words: &[u64])
-    requires { 4096 ≤ length words.now }
-{
+    put_pairs(&words[1024..2048], a.reserved_free_len);
     written::text(b" general_regions");
-    put_list(
-        lists::list_of(a, WhichList::GeneralRegions),
-        &words[2048..3072],
-    );
+    put_pairs(&words[2048..3072], a.general_regions_len);
     written::text(b" reserved_regions");
-    put_list(
-        lists::list_of(a, WhichList::ReservedRegions),
-        &words[3072..4096],
-    );
+    put_pairs(&words[3072..4096], a.reserved_regions_len);
 }
 
-fn put_form(sorted: bool) {
-    if sorted {
-        written::text(b"sorted");
-    } else {
-        written::text(b"early");
-    }
+fn early(a: &FrameAllocator) {
+    written::text(b"early general_free");
+    put_slots(&a.general_free);
+    written::text(b" reserved_free");
+    put_slots(&a.reserved_free);
+    written::text(b" general_regions");
+    put_slots(&a.general_regions);
+    written::text(b" reserved_regions");
+    put_slots(&a.reserved_regions);
 }
 
-fn put_list(list: OneList, t: &[u64]) {
-    if list.sorted {
-        put_pairs(t, list.len);
-    } else {
-        put_slots(list.early);
-    }
-}
-
-// Of more pairs than the words can have, none show.
 fn put_pairs(t: &[u64], len: usize) {
-    if 1024 < len {
-        return;
-    }
-    if t.len() < 2 * len {
-        return;
-    }
-    let mut i = 0;
-    while i < len {
-        put_entry(t[2 * i], t[2 * i + 1]);
-        i += 1;
+    for pair in t.chunks_exact(2).take(len) {
+        put_entry(pair[0], pair[1]);
     }
 }
 
 // A dash stands for the unused slots below a used one.
-fn put_slots(l: EarlyList) {
+fn put_slots(l: &EarlyList) {
     let mut gap = false;
-    let mut i = 0;
-    while i < 32 {
+    for i in 0..32 {
         if l.used[i] {
             put_gap(gap);
             put_entry(l.starts[i], l.ends[i]);
         }
         gap = !l.used[i];
-        i += 1;
     }
 }
 
