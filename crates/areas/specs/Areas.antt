@@ -1,5 +1,5 @@
 -- The areas of a boot map: as structs, and as a lent list of words. The words in quotes are document 01's.
-use Rattle.std.specs.Prelude.{ℕ, zero, suc, ◌≡◌, Bool, false, ◌||◌, List, [], ◌∷◌, map}
+use Rattle.std.specs.Prelude.{ℕ, ◌≡◌, Bool, false, ◌||◌, List, [], ◌∷◌, map}
 use Rattle.memory_structs.specs.Range.{range, empty, is_empty, above_top, touched, bytes_out_of_bounds}
 use Rattle.memory_structs.specs.declared.range.FrameRange.{FrameRange}
 use Rattle.model.specs.Lists.{any_of}
@@ -7,17 +7,13 @@ use Rattle.model.specs.Boot.{Extent, marked, reserved_of, all_pieces}
 use Rattle.model.specs.declared.Area.{Area}
 use Rattle.model.specs.declared.ByteArea.{ByteArea}
 use Rattle.model.specs.declared.Kind.{Kind}
-use Rattle.model.specs.declared.Kind.TheVariants.{General, Reserved}
+use Rattle.model.specs.declared.Kind.TheVariants.{General}
+use Rattle.model.specs.Words.{kind_of_word}
 use Rattle.carving.specs.Ranges.{listed, Appended}
 use Rattle.areas.specs.declared.AreaUnit.{AreaUnit}
 use Rattle.areas.specs.declared.AreaUnit.TheVariants.{Frames, Bytes}
 use Rattle.areas.specs.declared.BootArea.{BootArea}
 use Rattle.areas.specs.declared.Collected.{Collected}
-
--- "kind (general or reserved)", as a word: 0 is general, any other number reserved
-unfoldable pub kind_of_word : ℕ → Kind
-kind_of_word zero = General
-kind_of_word (suc k) = Reserved
 
 -- three words each; one or two words that are left over are nothing
 unfoldable pub triples : {A : Type 0} → (ℕ → ℕ → ℕ → A) → List ℕ → List A

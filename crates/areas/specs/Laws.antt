@@ -16,7 +16,8 @@ use Rattle.model.proofs.Boots.{bytes_below}
 use Rattle.areas.specs.declared.AreaUnit.{AreaUnit}
 use Rattle.areas.specs.declared.AreaUnit.TheVariants.{Frames, Bytes}
 use Rattle.areas.specs.declared.BootArea.{BootArea}
-use Rattle.areas.specs.Areas.{kind_of_word, triples, areas_in, byte_areas_in, frame_area, byte_area, boot_area, boot_byte_area, boot_areas, boot_byte_areas, area_of, read, extents, any_outside}
+use Rattle.model.specs.Words.{kind_of_word}
+use Rattle.areas.specs.Areas.{triples, areas_in, byte_areas_in, frame_area, byte_area, boot_area, boot_byte_area, boot_areas, boot_byte_areas, area_of, read, extents, any_outside}
 use Rattle.areas.specs.Boots.{IsBoot, Bounded, boot_call_of}
 
 -- what these areas are to the model

@@ -4,7 +4,7 @@
 ghost use Rattle.std.specs.Prelude.{◌≡◌, ◌<◌, List, map, length, get_or};
 ghost use Rattle.model.specs.Calls.{Call, boot_call, boot_bytes_call};
 ghost use Rattle.carving.specs.Ranges.{listed, ranges_in, Carvable};
-ghost use Rattle.areas.specs.Areas.{CollectedOf, OneAreaMore, pieces_in, boot_area, boot_byte_area, kind_of_word, area_of, read, no_area};
+ghost use Rattle.areas.specs.Areas.{CollectedOf, OneAreaMore, pieces_in, boot_area, boot_byte_area, area_of, read, no_area};
 ghost use Rattle.areas.specs.Boots.{IsBoot, Bounded, boot_call_of};
 ghost use Rattle.areas.specs.declared.BootArea.{BootArea};
 ghost use Rattle.areas.specs.Laws.{frames_boot, bytes_boot, words_boot, frames_bounded, bytes_bounded, words_bounded};
@@ -159,7 +159,7 @@ impl BootMap for WordAreas<'_> {
 fn area_of(unit: AreaUnit, first: u64, second: u64, third: u64) -> BootArea
     ensures { result ≡ area_of unit first second third }
 {
-    let kind = kind_of(third);
+    let kind = Kind::from(third);
     match unit {
         AreaUnit::Frames => Area {
             start: first,
@@ -173,17 +173,6 @@ fn area_of(unit: AreaUnit, first: u64, second: u64, third: u64) -> BootArea
             kind,
         }
         .boot_area(),
-    }
-}
-
-// A kind as a word: 0 is general, any other number reserved. A function and no `From`, since the type is another crate's.
-#[tactic(auto, unfolding(crate::specs::Areas::kind_of_word))]
-pub fn kind_of(word: u64) -> Kind
-    ensures { result ≡ kind_of_word word }
-{
-    match word {
-        0 => Kind::General,
-        _ => Kind::Reserved,
     }
 }
 

@@ -9,9 +9,10 @@ use lib.Seq.{take-suc-set, length-take-le}
 use Rattle.model.specs.declared.Area.{Area}
 use Rattle.model.specs.declared.Kind.{Kind}
 use Rattle.model.specs.declared.Kind.TheVariants.{General, Reserved}
-use Rattle.areas.specs.Areas.{kind_of_word, triples, areas_in}
+use Rattle.model.specs.Words.{kind_of_word, word_of}
+use Rattle.areas.specs.Areas.{triples, areas_in}
 use Rattle.bench_areas.specs.declared.AreaCounts.{AreaCounts}
-use Rattle.bench_areas.specs.Areas.{Few, Room, Adds, count_of, one_more, word_of, same_kind, how_many, words_used, collected}
+use Rattle.bench_areas.specs.Areas.{Few, Room, Adds, count_of, one_more, same_kind, how_many, words_used, collected}
 
 pub kind_back : (k : Kind) → kind_of_word (word_of k) ≡ k
 unfolding kind_of_word word_of

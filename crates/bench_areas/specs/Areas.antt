@@ -17,11 +17,6 @@ unfoldable pub one_more : Kind → AreaCounts → AreaCounts
 one_more General c = record { general = c.general + 1; reserved = c.reserved }
 one_more Reserved c = record { general = c.general; reserved = c.reserved + 1 }
 
--- the word that stands for a kind: `kind_back` (proofs/Collected) says that `areas_in` reads it as this kind
-unfoldable pub word_of : Kind → ℕ
-word_of General = 0
-word_of Reserved = 1
-
 -- 1 where the kinds are the same
 unfoldable pub same_kind : Kind → Kind → ℕ
 same_kind General General = 1

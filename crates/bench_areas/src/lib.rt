@@ -3,7 +3,7 @@
 #![tactic(auto)]
 
 ghost use Rattle.std.specs.Prelude.{◌≡◌};
-ghost use Rattle.bench_areas.specs.Areas.{Few, Room, Collects, no_areas, words_used, count_of, one_more, word_of};
+ghost use Rattle.bench_areas.specs.Areas.{Few, Room, Collects, no_areas, words_used, count_of, one_more};
 
 use model::{Area, Kind};
 
@@ -74,17 +74,6 @@ pub fn collect(areas: &mut [u64], counts: AreaCounts, area: Area) -> Option<Area
     let at = counts.words_used();
     areas[at] = area.start;
     areas[at + 1] = area.end;
-    areas[at + 2] = word_of(kind);
+    areas[at + 2] = u64::from(kind);
     Some(counts.one_more(kind))
-}
-
-// "kind (general or reserved)", as a word: 0 is general.
-#[tactic(auto, unfolding(crate::specs::Areas::word_of))]
-fn word_of(kind: Kind) -> u64
-    ensures { result ≡ word_of kind }
-{
-    match kind {
-        Kind::General => 0,
-        Kind::Reserved => 1,
-    }
 }

@@ -2,10 +2,10 @@
 // written.
 ghost use Rattle.memory_structs.specs.Range.{range};
 ghost use Rattle.model.specs.Calls.{kind_call, total_call, Answers, ListsHeld};
-ghost use Rattle.areas.specs.Areas.{kind_of_word};
+ghost use Rattle.model.specs.Words.{kind_of_word};
 
 use memory_structs::FrameRange;
-use model::{Answer, FrameAllocator};
+use model::{Answer, FrameAllocator, Kind};
 
 // count: 1 where any frame of the range is in a reserved region, else 0.
 #[unsafe(no_mangle)]
@@ -25,7 +25,7 @@ pub extern "C" fn likhmout_kind_of_range(
 pub extern "C" fn likhmout_free_total(a: &FrameAllocator, words: &[u64], kind: u64) -> Answer
     ensures { Answers (total_call (kind_of_word kind)) a.now words.now result }
 {
-    frame_allocator::free_total(*a, words, areas::kind_of(kind))
+    frame_allocator::free_total(*a, words, Kind::from(kind))
 }
 
 // count: how many runs are held. They are at the beginning of the buffer, as first and last frame, in an order that document 01 leaves

@@ -4,12 +4,12 @@ use Rattle.model.specs.declared.Answer.{Answer}
 use Rattle.model.specs.declared.Kind.{Kind}
 use Rattle.model.specs.declared.Kind.TheVariants.{General, Reserved}
 
--- a kind that comes as a word: 0 is general, any other number reserved
+-- "kind (general or reserved)", as a word: 0 is general, any other number reserved
 unfoldable pub kind_of_word : ℕ → Kind
 kind_of_word zero = General
 kind_of_word (suc k) = Reserved
 
--- and one that goes out as a word
+-- and the word that stands for a kind: `kind_back` (bench_areas/proofs/Collected) says that it is read as this kind
 unfoldable pub word_of : Kind → ℕ
 word_of General = 0
 word_of Reserved = 1

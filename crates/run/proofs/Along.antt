@@ -13,7 +13,8 @@ use Rattle.model.specs.declared.FrameAllocator.{FrameAllocator}
 use Rattle.model.proofs.Claimed.{demand_3}
 use Rattle.run_calls.specs.Made.{Made}
 use Rattle.run.specs.declared.RunEnd.{RunEnd}
-use Rattle.run.specs.Runs.{ran_to, answer_words, all_answers, Buffers, none, next, RunsCalls, Demanded}
+use Rattle.run.specs.Runs.{ran_to, all_answers, Buffers, none, next, RunsCalls, Demanded}
+use Rattle.model.specs.Words.{answer_words}
 
 -- ---- one answer
 

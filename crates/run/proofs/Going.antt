@@ -23,7 +23,8 @@ use Rattle.std.specs.Prelude.{Option, Some}
 use Rattle.run_calls.specs.Commands.{form_call, open_call, call_in}
 use Rattle.run_calls.specs.Made.{Made, MadeOpen}
 use Rattle.run_calls.proofs.Making.{form_other, made_gives}
-use Rattle.run.specs.Runs.{record_now, answer_words}
+use Rattle.run.specs.Runs.{record_now}
+use Rattle.model.specs.Words.{answer_words}
 use Rattle.run.proofs.Left.{decoded_at}
 use Rattle.run.proofs.Turns.{Reached, reached_start, reached_next}
 use Rattle.run.proofs.Opened.{Standing, standing_closes, standing_ruled, apart_standing, apart_record, made_standing, made_record}

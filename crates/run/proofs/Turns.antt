@@ -16,7 +16,8 @@ use Rattle.rules.proofs.Lasting.{test_lasts}
 use Rattle.run.specs.declared.Ran.{Ran}
 use Rattle.run.specs.declared.RunEnd.{RunEnd}
 use Rattle.run.specs.declared.RunEnd.TheVariants as ends
-use Rattle.run.specs.Runs.{decoded_in, calls_in, calls_made, end_of, ran_to, answer_words, Runs}
+use Rattle.run.specs.Runs.{decoded_in, calls_in, calls_made, end_of, ran_to, Runs}
+use Rattle.model.specs.Words.{answer_words}
 use Rattle.run.proofs.Along.{Along, along_start, along_next, along_end, demanded}
 use Rattle.run.proofs.Left.{decoded_at, left, end_left, left_done, end_done, left_damaged, end_damaged, left_full, end_full, left_next, end_next}
 

@@ -3,7 +3,7 @@ use Rattle.std.specs.Prelude.{ℕ, zero, suc, ◌/◌, ◌≡◌, true, List, []
 use Rattle.model.specs.Boot.{Extent}
 use Rattle.model.specs.Calls.{Call, Outcome, call, fresh_record}
 use Rattle.model.specs.History.{outcomes, record_after, words_after, is_general, Boots, Holds}
-use Rattle.model.specs.declared.Answer.{Answer}
+use Rattle.model.specs.Words.{answer_words}
 use Rattle.model.specs.declared.FrameAllocator.{FrameAllocator}
 use Rattle.areas.specs.Areas.{triples}
 use Rattle.entries.specs.declared.header.Header.{Header}
@@ -55,10 +55,6 @@ record_now zero a h slots = closed a h slots
 record_now (suc n) a h slots = a
 
 -- ---- what they leave
-
--- number, start, end, frame, count
-unfoldable pub answer_words : Answer → List ℕ
-answer_words x = x.number ∷ x.range.start ∷ x.range.end ∷ x.frame ∷ x.count ∷ []
 
 unfoldable pub all_answers : List Outcome → List ℕ
 all_answers [] = []

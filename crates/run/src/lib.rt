@@ -4,7 +4,8 @@
 
 ghost use Rattle.std.specs.Prelude.{◌≡◌, ◌&&◌, ◌++◌, ◌+◌, ◌≤◌, length, take, drop};
 ghost use Rattle.packing.specs.Packed.{Closable};
-ghost use Rattle.run.specs.Runs.{record_now, ran_with, answer_words, Runs};
+ghost use Rattle.run.specs.Runs.{record_now, ran_with, Runs};
+ghost use Rattle.model.specs.Words.{answer_words};
 
 use entries::Header;
 use model::{Answer, FrameAllocator};
@@ -109,9 +110,5 @@ fn put_answer(answers: &mut [u64], at: usize, x: Answer)
     requires { at + 5 ≤ length answers.old }
     ensures { answers.new ≡ take at answers.old ++ answer_words x ++ drop (at + 5) answers.old }
 {
-    answers[at] = x.number;
-    answers[at + 1] = x.range.start;
-    answers[at + 2] = x.range.end;
-    answers[at + 3] = x.frame;
-    answers[at + 4] = x.count;
+    answers[at..at + 5].copy_from_slice(&<[u64; 5]>::from(x));
 }

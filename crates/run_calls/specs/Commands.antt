@@ -3,7 +3,7 @@ use Rattle.std.specs.Prelude.{ℕ, ◌+◌, ◌*◌, ◌≡◌, Bool, true, List
 use Rattle.std.specs.Prelude.{if◌then◌else◌}
 use Rattle.memory_structs.specs.Range.{range}
 use Rattle.model.specs.Calls.{Call, sort_call, return_call, kind_call, total_call, held_call}
-use Rattle.areas.specs.Areas.{kind_of_word}
+use Rattle.model.specs.Words.{kind_of_word}
 use Rattle.areas.specs.declared.AreaUnit.{AreaUnit}
 use Rattle.areas.specs.Boots.{boot_call_of}
 use Rattle.requests.specs.Asked as asked

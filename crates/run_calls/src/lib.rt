@@ -69,7 +69,7 @@ pub fn decode(areas_len: usize, what: u64, x: u64, y: u64) -> Option<RunCall>
         }))),
         8 => Some(RunCall::Keep(OpenCall::Return(FrameRange::new(x, y)))),
         9 => Some(RunCall::Keep(OpenCall::KindOf(FrameRange::new(x, y)))),
-        10 => Some(RunCall::Keep(OpenCall::FreeTotal(areas::kind_of(x)))),
+        10 => Some(RunCall::Keep(OpenCall::FreeTotal(Kind::from(x)))),
         11 => Some(RunCall::Keep(OpenCall::HeldList)),
         _ => None,
     }

@@ -21,4 +21,4 @@ pub returns : goal.returns
 unfolding Collects
 returns c =
     let under : count_of c.args.area.kind c.args.counts < 64 = omega (arith, c.of.ensures) in
-    (under, adds c.args.area c.args.counts c.args.areas.now c.requires under c.words_used-at.ensures c.word_of.ensures c.one_more.ensures)
+    (under, adds c.args.area c.args.counts c.args.areas.now c.requires under c.words_used-at.ensures c.from.ensures c.one_more.ensures)
