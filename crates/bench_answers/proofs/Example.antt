@@ -8,7 +8,7 @@ use Rattle.model.specs.Returns.{sorted_of, sort}
 use Rattle.model.specs.Rules.{rising, slotted, tidy, rules}
 use Rattle.model.specs.Store.{zipped, slots_of, early_of, table_slots, slot_words, table_words, slots_in, load, early_in, length_in, words_in, record_of, words_of, emptied, none_used, all_zero, stored_in, store_rules}
 use Rattle.model.specs.Calls.{no_entries, boot, answer, short_buffer, stored, keeps_rules, call, fresh, fresh_record}
-use Rattle.lists.specs.Record.{slots_at}
+use Rattle.entries.specs.Whole.{slots_at}
 use Rattle.lines.specs.Words.{number, with_digit, with_byte, with_bytes, decimal_of}
 use Rattle.bench_lines.specs.Commands.{alone, one_number, two_numbers, with_one, with_two, command_in, is_form, command_of}
 use Rattle.bench_lines.specs.Lines.{lines_from}

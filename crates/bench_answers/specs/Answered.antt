@@ -7,7 +7,7 @@ use Rattle.model.specs.Calls.{Call, call, boot_call, sort_call, count_call, addr
 use Rattle.model.specs.declared.Area.{Area}
 use Rattle.model.specs.declared.FrameAllocator.{FrameAllocator}
 use Rattle.model.specs.declared.Kind.TheVariants.{General, Reserved}
-use Rattle.lists.specs.declared.record.WhichList.TheVariants.{GeneralFree, ReservedFree, GeneralRegions, ReservedRegions}
+use Rattle.entries.specs.declared.header.WhichList.TheVariants.{GeneralFree, ReservedFree, GeneralRegions, ReservedRegions}
 use Rattle.bench_areas.specs.Areas.{how_many}
 use Rattle.bench_lines.specs.Commands.{command_of}
 use Rattle.bench_lines.specs.declared.Command.{Command}

@@ -14,7 +14,7 @@ ghost use Rattle.bench_answers.specs.Replies.{Ready, Replies, Gathers, Says, rep
 use bench_areas::AreaCounts;
 use bench_lines::Command;
 use bench_lists::put_list;
-use lists::WhichList;
+use entries::WhichList;
 use memory_structs::FrameRange;
 use model::{Area, Called, FrameAllocator, Kind};
 
@@ -111,23 +111,13 @@ impl Bench {
         requires reply_room_in_bounds { reply_room ≤ length out.old }
         ensures { Says (four_lines (load self.allocator words.now)) self out.old result out.new }
     {
-        let a = self.allocator;
-        let reserved_free_at = put_list(out, 0, a, words, WhichList::GeneralFree);
-        let general_regions_at = put_list(out, reserved_free_at, a, words, WhichList::ReservedFree);
-        let reserved_regions_at = put_list(
-            out,
-            general_regions_at,
-            a,
-            words,
-            WhichList::GeneralRegions,
-        );
-        let len = put_list(
-            out,
-            reserved_regions_at,
-            a,
-            words,
-            WhichList::ReservedRegions,
-        );
+        let mut slots = [0u64; 256];
+        let h = packing::take_apart(self.allocator, &mut slots);
+        let lists = packing::entries_of(h, &slots, words);
+        let reserved_free_at = put_list(out, 0, h, lists, WhichList::GeneralFree);
+        let general_regions_at = put_list(out, reserved_free_at, h, lists, WhichList::ReservedFree);
+        let reserved_regions_at = put_list(out, general_regions_at, h, lists, WhichList::GeneralRegions);
+        let len = put_list(out, reserved_regions_at, h, lists, WhichList::ReservedRegions);
         Reply { bench: self, len }
     }
 

@@ -1,19 +1,23 @@
 -- Entries put one after another, as a loop puts them.
 use native.Mathlib.Omega.{arith}
-use Prim.Native.Nat.{ℕ, ◌+◌, ◌-◌, ◌*◌, ◌≤◌, ◌<◌}
+use Prim.Native.Nat.{ℕ, zero, suc, ◌+◌, ◌*◌, ◌≤◌, ◌<◌}
 use mathlib.Core.Path.{◌≡◌, refl, sym, ap, subst, ◌∙◌}
+use mathlib.Core.Bool.{Bool, true, false, true≢false}
 use mathlib.Core.List.{List, [], ◌∷◌, ◌++◌}
 use lib.ListN.{length, drop, length-append}
+use borrow.Author.Tests.{ltb-true}
+use Rattle.memory_structs.specs.Range.{is_empty}
 use Rattle.memory_structs.specs.declared.range.FrameRange.{FrameRange}
-use Rattle.model.specs.Lists.{entries}
-use Rattle.tables.proofs.Search.{pair_at, slots_cons}
-use Rattle.model.specs.Store.{load, table_slots}
-use Rattle.model.specs.declared.FrameAllocator.{FrameAllocator}
-use Rattle.lists.specs.Record.{slots_at}
-use Rattle.rules.specs.Check.{Ruled}
-use Rattle.parts.proofs.Tidy.{few}
-use Rattle.lists.specs.declared.record.WhichList.{WhichList}
-use Rattle.lists.specs.declared.record.WhichList.TheVariants.{GeneralFree, ReservedFree, GeneralRegions, ReservedRegions}
+use Rattle.model.specs.Lists.{Lists, Slot, unused, used, entries, range_at, bound}
+use Rattle.model.specs.Rules.{rules}
+use Rattle.model.proofs.Lawful.{AllSound}
+use Rattle.model.proofs.Ruled.{tidy_is}
+use Rattle.entries.specs.Part.{IsPart, slots_in}
+use Rattle.entries.specs.Whole.{slots_at}
+use Rattle.entries.proofs.Forms.{sorted_length, early_length}
+use Rattle.entries.proofs.Whole.{tidy_list}
+use Rattle.entries.specs.declared.header.WhichList.{WhichList}
+use Rattle.entries.specs.declared.header.WhichList.TheVariants.{GeneralFree, ReservedFree, GeneralRegions, ReservedRegions}
 use Rattle.bench_texts.specs.Texts.{Puts, line_end_text}
 use Rattle.bench_texts.proofs.Puts.{puts_then, puts_nothing}
 use Rattle.bench_texts.proofs.Decimal.{range_length}
@@ -45,20 +49,47 @@ module _ {whole left : List FrameRange} {before out : List ℕ} {at i next : ℕ
   unfolding entries_text
   going_ends g none = g.rest out next (subst (λ (rs : List FrameRange). Puts (entries_text rs) out next out next) (sym none) (puts_nothing out next))
 
--- a table's entries from the pair i on
-abbrev pub pairs_from : ℕ → ℕ → List ℕ → List FrameRange
-pairs_from len i t = entries (table_slots (len - i) (drop (2 * i) t))
+-- the same, at equal bytes and an equal place
+pub moved : {whole left : List FrameRange} {before out after : List ℕ} {at i next end : ℕ} → after ≡ out → end ≡ next →
+    Going whole left before at i out next → Going whole left before at i after end
+moved {whole} {left} {before} {out} {after} {at} {i} {next} {end} e f g =
+    subst (λ (x : ℕ). Going whole left before at i after x) (sym f) (subst (λ (x : List ℕ). Going whole left before at i x next) (sym e) g)
 
-pub pairs_start : (len : ℕ) (t : List ℕ) → entries (table_slots len t) ≡ pairs_from len 0 t
-pairs_start len t = let e : len - 0 ≡ len = omega arith in rw e
+-- ---- slot by slot: a slot whose range is empty is no entry, and each entry has a frame
 
-pub pairs_cons : (len i : ℕ) (t : List ℕ) → i < len → pairs_from len i t ≡ pair_at t i ∷ pairs_from len (i + 1) t
-unfolding entries
-pairs_cons len i t more = ap entries (slots_cons len i t more)
+pub past : (s : List Slot) (i : ℕ) → AllSound s → is_empty (range_at s i) ≡ true → entries (drop i s) ≡ entries (drop (suc i) s)
+unfolding entries range_at AllSound
+past [] zero a e = refl
+past [] (suc i) a e = refl
+past (unused ∷ s) zero a e = refl
+past (used r ∷ s) zero a e = let f : r.start ≤ r.end = a.0.filled in absurd (omega (arith, ltb-true r.end r.start e))
+past (unused ∷ s) (suc i) a e = past s i a e
+past (used r ∷ s) (suc i) a e = past s i a.1 e
 
-pub pairs_end : (len i : ℕ) (t : List ℕ) → len ≤ i → pairs_from len i t ≡ []
-unfolding entries table_slots
-pairs_end len i t all = let e : len - i ≡ 0 = omega arith in rw e
+pub here : (s : List Slot) (i : ℕ) → i < length s → is_empty (range_at s i) ≡ false → entries (drop i s) ≡ range_at s i ∷ entries (drop (suc i) s)
+unfolding entries range_at
+here [] i h e = absurd (omega arith)
+here (unused ∷ s) zero h e = absurd (true≢false e)
+here (used r ∷ s) zero h e = refl
+here (unused ∷ s) (suc i) h e = here s i (omega arith) e
+here (used r ∷ s) (suc i) h e = here s i (omega arith) e
+
+-- a list has at most 512 slots
+pub slots_few : {b : Bool} {n : ℕ} {ws : List ℕ} → IsPart b n ws → length (slots_in b n ws) ≤ 512
+slots_few {b} {n} {ws} t = go b refl
+  where
+    go : (x : Bool) → b ≡ x → length (slots_in b n ws) ≤ 512
+    go true e = omega (arith, sorted_length t e, t.few)
+    go false e = omega (arith, early_length t e)
+
+-- no list has more entries than a table
+bounded : (b : Bool) → bound b ≤ 512
+unfolding bound
+bounded true = omega arith
+bounded false = omega arith
+
+pub few : (l : Lists) (w : WhichList) → rules l ≡ true → length (entries (slots_at w l)) ≤ 512
+few l w e = omega (arith, (tidy_is l.sorted (slots_at w l) (tidy_list l e w)).few, bounded l.sorted)
 
 -- so many entries have room
 entries_length : (rs : List FrameRange) → length (entries_text rs) ≤ entry_room * length rs
@@ -78,10 +109,10 @@ name_length GeneralRegions = omega arith
 name_length ReservedRegions = omega arith
 
 -- so has the line of a list that keeps the rules
-pub line_within : (a : FrameAllocator) (ws : List ℕ) (w : WhichList) {before after : List ℕ} {at next : ℕ} → Ruled a ws → Puts (line_of w (load a ws)) before at after next → next ≤ at + line_room
+pub line_within : (l : Lists) (w : WhichList) {before after : List ℕ} {at next : ℕ} → rules l ≡ true → Puts (line_of w l) before at after next → next ≤ at + line_room
 unfolding list_line
-line_within a ws w {at = at} ruled p =
-    let rs = entries (slots_at w (load a ws)) in
-    let count : length rs ≤ 512 = few a ws ruled w in
+line_within l w ruled p =
+    let rs = entries (slots_at w l) in
+    let count : length rs ≤ 512 = few l w ruled in
     let named : length (list_line w rs) ≡ length (name_text w) + (length (entries_text rs) + 2) = length-append (name_text w) (entries_text rs ++ line_end_text) ∙ ap (◌+◌ (length (name_text w))) (length-append (entries_text rs) line_end_text) in
     omega (arith, p.place, named, name_length w, entries_length rs)

@@ -5,6 +5,7 @@
 ghost use Rattle.std.specs.Prelude.{◌≡◌, ◌&&◌, length};
 ghost use Rattle.model.specs.Store.{early_of};
 ghost use Rattle.pairs.specs.Pairs.{pair_slots, IsPairs};
+ghost use Rattle.packing.specs.Open.{lent};
 ghost use Rattle.packing.specs.Packed.{interleaved, packed, header_in, Closable, closed_with, Apart};
 
 use entries::{Answered, Header};
@@ -56,6 +57,14 @@ fn pack_list(list: &EarlyList, t: &mut [u64])
         t[2 * i] = list.starts[i];
         t[2 * i + 1] = list.ends[i];
     }
+}
+
+// The entries of an allocator that stands open: the workspace in sorted form, the slots in early form.
+#[tactic(auto, unfolding(crate::specs::Open::lent))]
+pub fn entries_of<'a>(h: Header, slots: &'a [u64], words: &'a [u64]) -> &'a [u64]
+    ensures { result.now ≡ lent h.sorted slots.now words.now }
+{
+    if h.sorted { words } else { slots }
 }
 
 // What the calls left, in the record: the header and, unless the record was in sorted form and still is, the slots. They are written where

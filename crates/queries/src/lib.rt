@@ -58,14 +58,14 @@ pub fn kind(h: Header, slots: &[u64], words: &[u64], range: FrameRange) -> Answe
     requires { Ruled h (lent h.sorted slots.now words.now) }
     ensures { result ≡ (kind_of range (lists_in h (lent h.sorted slots.now words.now))).answer }
 {
-    query_core::kind(h, entries_of(h, slots, words), range)
+    query_core::kind(h, packing::entries_of(h, slots, words), range)
 }
 
 pub fn free_frames(h: Header, slots: &[u64], words: &[u64], kind: Kind) -> Answer
     requires { Ruled h (lent h.sorted slots.now words.now) }
     ensures { result ≡ (total kind (lists_in h (lent h.sorted slots.now words.now))).answer }
 {
-    query_core::free_total(h, entries_of(h, slots, words), kind)
+    query_core::free_total(h, packing::entries_of(h, slots, words), kind)
 }
 
 pub fn list_held(h: Header, slots: &[u64], words: &[u64], buffer: &mut [u64]) -> Answer
@@ -73,13 +73,5 @@ pub fn list_held(h: Header, slots: &[u64], words: &[u64], buffer: &mut [u64]) ->
     requires in_bounds { 2048 ≤ length buffer.old }
     ensures { Listed (lists_in h (lent h.sorted slots.now words.now)) buffer.old result buffer.new }
 {
-    query_core::held_list(h, entries_of(h, slots, words), buffer)
-}
-
-// Its entries: the workspace in sorted form, the slots in early form.
-#[tactic(auto, unfolding(packing::specs::Open::lent))]
-fn entries_of<'a>(h: Header, slots: &'a [u64], words: &'a [u64]) -> &'a [u64]
-    ensures { result.now ≡ lent h.sorted slots.now words.now }
-{
-    if h.sorted { words } else { slots }
+    query_core::held_list(h, packing::entries_of(h, slots, words), buffer)
 }

@@ -1,29 +1,51 @@
--- `put_entries`: the pairs of the table, or the slots.
-use Prim.Native.Nat.{ℕ}
-use mathlib.Core.Path.{subst⁻¹}
-use mathlib.Core.List.{List}
-use Rattle.model.specs.Lists.{entries}
-use Rattle.lists.proofs.One.{as_table, as_early, at_sorted, at_early}
-use Rattle.bench_texts.specs.Texts.{Puts}
-use Rattle.bench_lists.specs.ListLines.{entries_text}
+-- `put_entries`: at each turn the entries from the slot i on are left.
+use Prim.Native.Nat.{ℕ, suc, ◌+◌, ◌≤◌, ◌<◌}
+use native.Mathlib.Omega.{arith}
+use mathlib.Core.Path.{◌≡◌, sym, ap, subst, ◌∙◌}
+use mathlib.Core.List.{List, ◌∷◌}
+use lib.ListN.{length, drop, drop_of_length-le}
+use Rattle.memory_structs.specs.Range.{is_empty}
+use Rattle.memory_structs.specs.declared.range.FrameRange.{FrameRange}
+use Rattle.model.specs.Lists.{Slot, entries}
+use Rattle.model.proofs.Ruled.{tidy_is}
+use Rattle.entries.specs.Part.{slots_of}
+use Rattle.bench_lists.proofs.Going.{Going, going_starts, going_on, going_past, going_ends, moved, past, here, slots_few}
 use Rattle.bench_lists.proofs.put_entries.Goals as goal
+use Rattle.bench_lists.proofs.put_entries.Goals.{then-not-is_empty, else-not-is_empty}
 
-pub put_table-requires : goal.put_table-requires
-put_table-requires c = let t = as_table c.args.l c.args.t.now c.requires.list c.if-l.true in record {
-  len_bound = (t.fits, t.size);
-  entries_room_in_bounds = c.requires.entries_room_in_bounds;
-}
+pub loop-i-init : goal.loop-i-init
+loop-i-init c = going_starts _ c.args.out.now c.args.at
 
-pub returns-then-l : goal.returns-then-l
-returns-then-l c = let a = c.args in
-    subst⁻¹ (λ (x : List ℕ). Puts x a.out.now a.at c.put_table.new.out c.put_table.result) (at_sorted (λ b x. entries_text (entries x)) a.l a.t.now c.if-l.true) c.put_table.ensures
+pub entry-slot-requires : goal.entry-slot-requires
+entry-slot-requires c = record { part = c.requires.tidy.part; i_in_bounds = omega (arith, c.slots_in-i-end.ensures) }
 
-pub put_slots-requires : goal.put_slots-requires
-put_slots-requires c = record {
-  used_len = (as_early c.args.l c.args.t.now c.requires.list c.if-l.false).size;
-  entries_room_in_bounds = c.requires.entries_room_in_bounds;
-}
+pub put_entry-next-requires : goal.put_entry-next-requires
+put_entry-next-requires c = let few : c.loop-i.i < 512 = omega (arith, slots_few c.requires.tidy.part, c.slots_in-i-end.ensures) in
+    omega (arith, few, c.requires.entries_room_in_bounds, c.loop-i.invariant.place, c.loop-i.invariant.size)
+
+pub loop-i-preserved : goal.loop-i-preserved
+loop-i-preserved c =
+    let v = c.loop-i in
+    let s : List Slot = slots_of c.args.part c.args.t.now in
+    let more : v.i < length s = omega (arith, c.slots_in-i-end.ensures) in
+    let few : v.i < 512 = omega (arith, slots_few c.requires.tidy.part, more) in
+    let inside : v.next ≤ length v.out = omega (arith, few, c.requires.entries_room_in_bounds, v.invariant.place, v.invariant.size) in
+    let left = λ (rs : List FrameRange). Going (entries s) rs c.args.out.now c.args.at v.i v.out v.next in
+    let sound = (tidy_is _ _ c.requires.tidy.keeps).shape.sound in
+    let next : suc v.i ≡ v.i + 1 = omega arith in
+    let e = c.entry-slot.ensures in
+    elim c.if-not-is_empty.branch [
+      | then-not-is_empty w ↦
+        let here_is : entries (drop v.i s) ≡ c.entry-slot.result ∷ entries (drop (v.i + 1) s) =
+          here s v.i more (ap is_empty (sym e) ∙ sym c.is_empty.ensures ∙ w.if-not-is_empty.true) ∙ (λ k. sym e k ∷ entries (drop (next k) s)) in
+        moved w.out-is w.next-is (going_on (subst left here_is v.invariant) inside w.put_entry-next.ensures w.put_entry-next.auto.out)
+      | else-not-is_empty w ↦
+        let past_is : entries (drop v.i s) ≡ entries (drop (v.i + 1) s) =
+          past s v.i sound (ap is_empty (sym e) ∙ sym c.is_empty.ensures ∙ w.if-not-is_empty.false) ∙ (λ k. entries (drop (next k) s)) in
+        moved w.out-is w.next-is (going_past (subst left past_is v.invariant))
+    ]
 
 pub returns : goal.returns
-returns c = let a = c.args in
-    subst⁻¹ (λ (x : List ℕ). Puts x a.out.now a.at c.put_slots.new.out c.put_slots.result) (at_early (λ b x. entries_text (entries x)) a.l a.t.now c.if-l.false) c.put_slots.ensures
+unfolding entries
+returns c = let v = c.loop-i in
+    going_ends v.invariant (ap entries (drop_of_length-le (slots_of c.args.part c.args.t.now) {i = v.i} (omega (arith, c.slots_in-i-end.ensures))))
