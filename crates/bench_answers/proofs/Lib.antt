@@ -1,3 +1,4 @@
 pub mod Replying
 pub mod Lasting
 pub mod Example
+pub mod Opened
