@@ -10,14 +10,14 @@ use lib.Seq.{drop-cons}
 use lib.Dec.{leb, ltb}
 use borrow.Author.Tests.{le-leb, lt-leb, eq-eqb, ltb-true, ltb-false}
 use Rattle.std.specs.Prelude.{if◌then◌else◌}
-use Rattle.memory_structs.specs.Range.{range, meets, top}
+use Rattle.memory_structs.specs.Range.{range, is_empty, meets, top}
 use Rattle.memory_structs.specs.declared.range.FrameRange.{FrameRange}
 use Rattle.model.specs.Lists.{Slot, unused, used, entries, any_of, all_of, disjoint, bound}
 use Rattle.model.specs.Rules.{slotted, tidy}
 use Rattle.model.proofs.Plainly.{fewer_entries}
 use Rattle.pairs.specs.Pairs.{pair_slot, pair_slots}
 use Rattle.pairs.proofs.Slots.{pair_used, pair_unused, pair_at_holds, pairs_length}
-use Rattle.pairs.proofs.Turns.{left, pair_of, range_of, one_used, none_used_holds, none_left}
+use Rattle.pairs.proofs.Turns.{left, range_of, one_used, none_left}
 use Rattle.early_rules.specs.Slot.{tidy_slot}
 use Rattle.early_rules.proofs.Stored.{sound}
 
@@ -74,6 +74,14 @@ module _ (ws : List ℕ) (i : ℕ) where
   pub orderly_done : 32 ≤ i → orderly_from i ws ≡ true
   unfolding orderly
   orderly_done h = ap orderly (drop_of_length-le (pair_slots 32 ws) {i = i} (omega (arith, pairs_length 32 ws)))
+
+-- whether a slot that is read is used
+module _ (ws : List ℕ) (i : ℕ) {r : FrameRange} (e : r ≡ range_of ws i) where
+  pub filled : is_empty r ≡ false → get_or ws (2 * i) 0 ≤ get_or ws (2 * i + 1) 0
+  filled p = ltb-false _ _ (sym (ap is_empty e) ∙ p)
+
+  pub hollow : is_empty r ≡ true → get_or ws (2 * i + 1) 0 < get_or ws (2 * i) 0
+  hollow p = ltb-true _ _ (sym (ap is_empty e) ∙ p)
 
 -- the answers of the test of one slot
 module _ (ws : List ℕ) (i : ℕ) (h : i < 32) (after : List FrameRange) where

@@ -1,23 +1,23 @@
 -- The slots of a record, one by one, and what plain slots say of the pairs of words that they are packed into.
 use mathlib.Core.Path.{◌≡◌, refl, sym, ap, ◌∙◌}
-use mathlib.Core.Bool.{Bool, true, false, not, ◌&&◌, and_assoc, and-false, false≢true}
+use mathlib.Core.Bool.{Bool, true, false, not, ◌&&◌, and_assoc, and-false}
 use mathlib.Core.List.{List, [], ◌∷◌}
-use Prim.Native.Nat.{ℕ, suc, ◌+◌, ◌≤◌, ◌<◌}
+use Prim.Native.Nat.{ℕ, ◌+◌, ◌≤◌, ◌<◌}
 use native.Mathlib.Numerals.{add-one}
 use native.Mathlib.Omega.{arith}
 use lib.ListN.{length, get_or, drop, drop_of_length-le}
 use lib.Seq.{drop-cons}
 use lib.Dec.{leb, eqb}
 use borrow.Author.Tests.{leb-true, eqb-true}
-use Rattle.memory_structs.specs.Range.{range, top}
+use Rattle.memory_structs.specs.Range.{top}
 use Rattle.memory_structs.proofs.Bools.{both_first, both_second}
 use Rattle.memory_structs.specs.declared.range.FrameRange.{FrameRange}
-use Rattle.model.specs.Lists.{Slot, unused, used, entries, all_of, disjoint, bound}
+use Rattle.model.specs.Lists.{Slot, entries, all_of, disjoint, bound}
 use Rattle.model.specs.Rules.{slotted, tidy}
 use Rattle.model.specs.Store.{zipped, slots_of, emptied, none_used}
 use Rattle.model.specs.declared.EarlyList.{EarlyList}
 use Rattle.model.proofs.Early.{Arrays}
-use Rattle.pairs.specs.Pairs.{pair_slot, pair_slots}
+use Rattle.pairs.specs.Pairs.{pair_slots}
 use Rattle.pairs.proofs.Slots.{pair_used, pair_unused}
 use Rattle.packing.specs.Packed.{interleaved}
 use Rattle.early_rules.specs.Slot.{each_slot, plain_slot, plain}
