@@ -52,25 +52,7 @@ outside_over (x ∷ xs) a = ap (λ (b : Bool). x.outside || b) (outside_over xs 
 reserved_in_holds : (xs : List BootArea) (a : BootArea) → reserved_in (xs ++ a ∷ []) ≡ reserved_in xs ++ reserved_in (a ∷ [])
 reserved_in_holds xs a = ap reserved_of (extents_over xs (a ∷ [])) ∙ reserved_over (extents xs) (extents (a ∷ []))
 
--- one area, by its kind
-module _ (c d : Collected) (a : BootArea) (o : d.any_outside ≡ (c.any_outside || a.outside)) where
-  pub adds_general : a.kind ≡ General → d.reserved ≡ c.reserved → d.any_empty ≡ c.any_empty → OneAreaMore c a d
-  unfolding extents marked reserved_of any_of
-  adds_general k r e = record {
-    appended = λ xs p. r ∙ p ∙ rw k (ap listed (sym (append-nil xs)));
-    empty_is = e ∙ rw k (sym (or-false c.any_empty));
-    outside_is = o;
-  }
-
-  pub adds_reserved : a.kind ≡ Reserved → Appended c.reserved (a.frames ∷ []) d.reserved
-      → d.any_empty ≡ (c.any_empty || is_empty a.frames) → OneAreaMore c a d
-  unfolding extents marked reserved_of any_of
-  adds_reserved k r e = record {
-    appended = λ xs p. rw k (r xs p);
-    empty_is = rw k (e ∙ ap (λ (b : Bool). c.any_empty || b) (sym (or-false (is_empty a.frames))));
-    outside_is = o;
-  }
-
+-- no area yet
 pub nothing_yet : (c : Collected) → c.reserved ≡ listed [] → c.any_empty ≡ false → c.any_outside ≡ false → CollectedOf [] c
 unfolding extents reserved_of any_of any_outside
 nothing_yet c r e o = record { reserved_are = r; empty_is = e; outside_is = o }

@@ -187,6 +187,7 @@ pub struct Collected {
 
 impl Collected {
     // One area more.
+    #[tactic(auto, unfolding(crate::specs::Areas::extents, model::specs::Boot::marked, model::specs::Boot::reserved_of, model::specs::Lists::any_of))]
     fn add(&mut self, area: BootArea)
         ensures { OneAreaMore self.old area self.new }
     {

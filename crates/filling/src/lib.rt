@@ -62,6 +62,7 @@ pub fn fill_lists(pieces: &RangeList, reserved: &RangeList) -> FrameAllocator
 }
 
 // The ranges in the first slots, in their order; the other slots are unused.
+#[tactic(auto, using(crate::proofs::Slots::filled_start, crate::proofs::Slots::filled_next))]
 fn early_list(ranges: &RangeList) -> EarlyList
     requires { Whole ranges.now }
     ensures { result ≡ early_of (early (ranges_in ranges.now)) }
