@@ -7,6 +7,7 @@ use lib.ListN.{length, take, drop, length-drop}
 use lib.Seq.{take-length, take_all, drop-drop}
 use Rattle.lines.specs.Bytes.{slice, index_of}
 use Rattle.bench_lines.specs.Commands.{command_of}
+use Rattle.std.proofs.Common.{Option}
 use Rattle.bench_lines.specs.declared.Command.{Command}
 use Rattle.bench_lines.specs.Lines.{lines_from, rest_from, LineHeld}
 use Rattle.bench_lines.proofs.Held.{held_decides}
@@ -56,7 +57,7 @@ module _ {text came held : List ℕ} {first s : State} {at end : ℕ} (next : Ne
 
       stepped : state_after (lines_from [] (drop (end + 1) text)) t ≡ state_after (lines_from held (drop at text)) s
       stepped =
-          ap (state_after (lines_from [] (drop (end + 1) text))) (did ∙ ap (λ (c : Command). (answered c s).state) same_line)
+          ap (state_after (lines_from [] (drop (end + 1) text))) (did ∙ ap (λ (c : Option Command). (answered c s).state) same_line)
           ∙ ap (λ (l : List ℕ). state_after (lines_from [] l) (answered (command_of (held ++ take (index_of 10 (drop at text)) (drop at text))) s).state) (sym onward)
           ∙ ap (λ (ls : List (List ℕ)). state_after ls s) (sym (line_first held (drop at text) there))
 

@@ -12,11 +12,11 @@
 // A line above 128 bytes, and any other line, prints `(bad)`, and the next line is answered. A last line may lack its line end.
 #![tactic(auto)]
 
-ghost use Rattle.std.specs.Prelude.{◌≤◌, ◌<◌, length};
+ghost use Rattle.std.specs.Prelude.{◌≡◌, ◌≤◌, ◌<◌, length, take};
 ghost use Rattle.io.specs.Counts.{IsPrefixLen};
 ghost use Rattle.bench_lines.specs.Commands.{command_of};
 ghost use Rattle.bench_answers.specs.Answered.{answered};
-ghost use Rattle.bench_answers.specs.Replies.{Ready, Replies, reply_room, state_of};
+ghost use Rattle.bench_answers.specs.Replies.{Replies, reply_room, state_of};
 ghost use Rattle.framebench.specs.Reached.{ReadyAt, AnswersLines};
 
 use bench_answers::{Bench, Reply};
@@ -32,45 +32,46 @@ struct Reached {
     held: usize,
 }
 
-fn main(rt: HostRuntime) {
-    let mut chunk = [0u8; 4096];
+// What lives as long as the program: the bytes held of a line, the text of an answer, the areas collected, and the allocator's words.
+#[derive(Drop)]
+struct Buffers {
     // One byte more than a line may have: see `bench_lines::hold`.
-    let mut line = [0u8; 129];
+    line: [u8; 129],
     // Four lists, a line each: 17 bytes at most for the name, 44 for each of 512 entries, and 2 for the end.
-    let mut out = [0u8; 90188];
+    out: [u8; 90188],
     // 64 areas of each kind, three words to an area.
-    let mut areas = [0u64; 384];
-    let mut words = [0u64; 4096];
-    run(&rt, &mut chunk, &mut line, &mut out, &mut areas, &mut words);
+    areas: [u64; 384],
+    words: [u64; 4096],
 }
 
-// A proved loop has to end, and nothing says that input does. So the loop counts its turns down, from a number that no run uses up.
-fn run(
-    rt: &HostRuntime,
-    chunk: &mut [u8],
-    line: &mut [u8],
-    out: &mut [u8],
-    areas: &mut [u64],
-    words: &mut [u64],
-)
-    requires { (128 < length line.old) × (reply_room ≤ length out.old) × (384 ≤ length areas.old) × (4096 ≤ length words.old) }
+fn main(rt: HostRuntime) {
+    let mut chunk = [0u8; 4096];
+    let mut buffers = Buffers {
+        line: [0; 129],
+        out: [0; 90188],
+        areas: [0; 384],
+        words: [0; 4096],
+    };
+    run(&rt, &mut chunk, &mut buffers);
+}
+
+// A proved loop has to end, and nothing says that input does: so it has a bound that no run comes to.
+fn run(rt: &HostRuntime, chunk: &mut [u8], buffers: &mut Buffers)
+    requires { (128 < length buffers.old.line) × (reply_room ≤ length buffers.old.out) × (384 ≤ length buffers.old.areas) × (4096 ≤ length buffers.old.words) }
 {
     let mut reached = Reached {
-        bench: bench_answers::begin(),
+        bench: Bench::begin(),
         held: 0,
     };
-    let mut turns = u64::MAX;
-    while turns > 0 {
+    for _ in 0..u64::MAX {
         let n = read_some(rt, chunk);
         if n == 0 {
             break;
         }
-        reached = answer_lines(reached, &chunk[..n], line, out, areas, words);
-        turns -= 1;
+        reached = answer_lines(reached, &chunk[..n], buffers);
     }
-    let held = reached.held;
-    if held != 0 {
-        answer_line(reached.bench, &line[..held], out, areas, words);
+    if reached.held != 0 {
+        answer_line(reached, buffers);
     }
 }
 
@@ -78,48 +79,42 @@ fn run(
 fn read_some(rt: &HostRuntime, chunk: &mut [u8]) -> usize
     ensures { IsPrefixLen result chunk.new }
 {
-    match rt.stdin().read(chunk) {
-        Ok(n) => n,
-        Err(_) => 0,
-    }
+    rt.stdin().read(chunk).unwrap_or(0)
 }
 
 // Answers each line that ends in the text, the first with the bytes held before, and holds what follows the last.
-fn answer_lines(
-    reached: Reached,
-    text: &[u8],
-    line: &mut [u8],
-    out: &mut [u8],
-    areas: &mut [u64],
-    words: &mut [u64],
-) -> Reached
-    requires { ReadyAt reached line.old out.old areas.old words.old }
-    ensures ready_at { ReadyAt result line.new out.new areas.new words.new }
-    ensures answers_lines { AnswersLines text.now reached line.old areas.old words.old result line.new areas.new words.new }
+fn answer_lines(reached: Reached, text: &[u8], buffers: &mut Buffers) -> Reached
+    requires { ReadyAt reached buffers.old.line buffers.old.out buffers.old.areas buffers.old.words }
+    ensures ready_at { ReadyAt result buffers.new.line buffers.new.out buffers.new.areas buffers.new.words }
+    ensures answers_lines { AnswersLines text.now reached buffers.old.line buffers.old.areas buffers.old.words result buffers.new.line buffers.new.areas buffers.new.words }
 {
     let mut bench = reached.bench;
     let mut held = reached.held;
     let mut at = 0;
     let mut end = lines::find(text, 0, text.len(), b'\n');
     while end < text.len() {
-        held = bench_lines::hold(line, held, &text[at..end]);
-        let reply = answer_line(bench, &line[..held], out, areas, words);
+        held = bench_lines::hold(&mut buffers.line, held, &text[at..end]);
+        let reply = answer_line(Reached { bench, held }, buffers);
         bench = reply.bench;
         held = 0;
         at = end + 1;
         end = lines::find(text, at, text.len(), b'\n');
     }
-    held = bench_lines::hold(line, held, &text[at..]);
+    held = bench_lines::hold(&mut buffers.line, held, &text[at..]);
     Reached { bench, held }
 }
 
-// Answers the line, and writes what it prints before the next one is looked at.
-fn answer_line(b: Bench, line: &[u8], out: &mut [u8], areas: &mut [u64], words: &mut [u64]) -> Reply
-    requires { Ready b out.old areas.old words.old }
-    ensures { Replies (answered (command_of line.now) (state_of b areas.old words.old)) out.old result out.new areas.new words.new }
+// Answers the line that is held, and writes what it prints before the next one is looked at.
+fn answer_line(reached: Reached, buffers: &mut Buffers) -> Reply
+    requires { ReadyAt reached buffers.old.line buffers.old.out buffers.old.areas buffers.old.words }
+    ensures kept { buffers.new.line ≡ buffers.old.line }
+    ensures replies { Replies (answered (command_of (take reached.held buffers.old.line)) (state_of reached.bench buffers.old.areas buffers.old.words)) buffers.old.out result buffers.new.out buffers.new.areas buffers.new.words }
 {
-    let reply = bench_answers::answer(b, line, out, areas, words);
-    let len = reply.len;
-    io::write_all(STDOUT_FILENO, &out[..len]);
+    let line = &buffers.line[..reached.held];
+    let out = &mut buffers.out;
+    let reply = reached
+        .bench
+        .answer(line, out, &mut buffers.areas, &mut buffers.words);
+    io::write_all(STDOUT_FILENO, &buffers.out[..reply.len]);
     reply
 }
