@@ -17,6 +17,7 @@ use bench_lists::put_list;
 use entries::WhichList;
 use memory_structs::FrameRange;
 use model::{Area, Called, FrameAllocator, Kind};
+use requests::Request;
 
 // What lives from line to line, beside the lent words.
 #[derive(Clone, Copy)]
@@ -63,8 +64,14 @@ impl Bench {
             }
             Command::Boot => self.boot(out, areas, words),
             Command::Sort => self.tell(out, sort::convert_frame_allocator_to_heap_based(a, words)),
-            Command::Count(n) => self.tell(out, calls::allocate_frames(a, words, n)),
-            Command::At(frame, n) => self.tell(out, calls::allocate_frames_at(a, words, frame, n)),
+            Command::Count(num_frames) => self.tell(
+                out,
+                calls::allocate(a, words, Request::Frames { num_frames }),
+            ),
+            Command::At(frame, num_frames) => self.tell(
+                out,
+                calls::allocate(a, words, Request::FramesAt { frame, num_frames }),
+            ),
             Command::Give(start, end) => {
                 let range = FrameRange::new(start, end);
                 self.tell(out, calls::return_frames(a, words, range))
@@ -116,8 +123,20 @@ impl Bench {
         let lists = packing::entries_of(h, &slots, words);
         let reserved_free_at = put_list(out, 0, h, lists, WhichList::GeneralFree);
         let general_regions_at = put_list(out, reserved_free_at, h, lists, WhichList::ReservedFree);
-        let reserved_regions_at = put_list(out, general_regions_at, h, lists, WhichList::GeneralRegions);
-        let len = put_list(out, reserved_regions_at, h, lists, WhichList::ReservedRegions);
+        let reserved_regions_at = put_list(
+            out,
+            general_regions_at,
+            h,
+            lists,
+            WhichList::GeneralRegions,
+        );
+        let len = put_list(
+            out,
+            reserved_regions_at,
+            h,
+            lists,
+            WhichList::ReservedRegions,
+        );
         Reply { bench: self, len }
     }
 

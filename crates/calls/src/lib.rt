@@ -3,7 +3,7 @@
 #![tactic(auto)]
 
 ghost use Rattle.std.specs.Prelude.{◌≡◌, length};
-ghost use Rattle.model.specs.Calls.{count_call, count_bytes_call, address_call, address_bytes_call, general_call, return_call, answer, Gives};
+ghost use Rattle.model.specs.Calls.{return_call, answer, Gives};
 ghost use Rattle.entries.specs.Whole.{lists_in, Ruled, Does};
 ghost use Rattle.packing.specs.Open.{lent, DoesOpen};
 ghost use Rattle.requests.specs.Asked as asked;
@@ -18,56 +18,6 @@ use requests::Request;
 pub enum Operation {
     Allocate(Request),
     Return(FrameRange),
-}
-
-// So many general frames, wherever they are.
-pub fn allocate_frames(a: FrameAllocator, words: &mut [u64], num_frames: u64) -> Called
-    ensures { Gives (count_call num_frames) a words.old result words.new }
-{
-    allocate(a, words, Request::Frames { num_frames })
-}
-
-// General frames for so many bytes.
-pub fn allocate_frames_by_bytes(a: FrameAllocator, words: &mut [u64], num_bytes: u64) -> Called
-    ensures { Gives (count_bytes_call num_bytes) a words.old result words.new }
-{
-    allocate(a, words, Request::Bytes { num_bytes })
-}
-
-// The frames from this one on. Where no list knows them they become a reserved region, for good.
-pub fn allocate_frames_at(
-    a: FrameAllocator,
-    words: &mut [u64],
-    frame: u64,
-    num_frames: u64,
-) -> Called
-    ensures { Gives (address_call frame num_frames) a words.old result words.new }
-{
-    allocate(a, words, Request::FramesAt { frame, num_frames })
-}
-
-// The frames of so many bytes from this address on.
-pub fn allocate_frames_by_bytes_at(
-    a: FrameAllocator,
-    words: &mut [u64],
-    address: u64,
-    num_bytes: u64,
-) -> Called
-    ensures { Gives (address_bytes_call address num_bytes) a words.old result words.new }
-{
-    allocate(a, words, Request::BytesAt { address, num_bytes })
-}
-
-// The frames from this one on, if they are general and free.
-pub fn allocate_general_frames_at(
-    a: FrameAllocator,
-    words: &mut [u64],
-    frame: u64,
-    num_frames: u64,
-) -> Called
-    ensures { Gives (general_call frame num_frames) a words.old result words.new }
-{
-    allocate(a, words, Request::GeneralFramesAt { frame, num_frames })
 }
 
 // A request: document 01, "How a request is met".

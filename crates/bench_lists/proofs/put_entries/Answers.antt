@@ -36,13 +36,13 @@ loop-i-preserved c =
     let e = c.entry-slot.ensures in
     elim c.if-not-is_empty.branch [
       | then-not-is_empty w ↦
-        let here_is : entries (drop v.i s) ≡ c.entry-slot.result ∷ entries (drop (v.i + 1) s) =
+          let here_is : entries (drop v.i s) ≡ c.entry-slot.result ∷ entries (drop (v.i + 1) s) =
           here s v.i more (ap is_empty (sym e) ∙ sym c.is_empty.ensures ∙ w.if-not-is_empty.true) ∙ (λ k. sym e k ∷ entries (drop (next k) s)) in
-        moved w.out-is w.next-is (going_on (subst left here_is v.invariant) inside w.put_entry-next.ensures w.put_entry-next.auto.out)
+          moved w.out-is w.next-is (going_on (subst left here_is v.invariant) inside w.put_entry-next.ensures w.put_entry-next.auto.out)
       | else-not-is_empty w ↦
-        let past_is : entries (drop v.i s) ≡ entries (drop (v.i + 1) s) =
+          let past_is : entries (drop v.i s) ≡ entries (drop (v.i + 1) s) =
           past s v.i sound (ap is_empty (sym e) ∙ sym c.is_empty.ensures ∙ w.if-not-is_empty.false) ∙ (λ k. entries (drop (next k) s)) in
-        moved w.out-is w.next-is (going_past (subst left past_is v.invariant))
+          moved w.out-is w.next-is (going_past (subst left past_is v.invariant))
     ]
 
 pub returns : goal.returns
