@@ -6,7 +6,7 @@ ghost use Rattle.std.specs.Prelude.{◌≡◌, ◌&&◌, ◌++◌, ◌+◌, ◌�
 ghost use Rattle.packing.specs.Packed.{Closable};
 ghost use Rattle.run.specs.Runs.{record_now, ran_with, answer_words, Runs};
 
-use entries::Header;
+use entries::{Answered, Header};
 use model::{Answer, FrameAllocator};
 use run_calls::{Decoded, RunCall};
 
@@ -120,7 +120,11 @@ fn record_now(number: u64, a: FrameAllocator, h: Header, slots: &[u64]) -> Frame
     if number != 0 {
         return a;
     }
-    let closed = packing::close(a, entries::accepted(h, 0), slots);
+    let done = Answered {
+        answer: Answer::counted(0),
+        header: h,
+    };
+    let closed = packing::close(a, done, slots);
     closed.allocator
 }
 
