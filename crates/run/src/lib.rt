@@ -7,7 +7,7 @@ ghost use Rattle.packing.specs.Packed.{Closable};
 ghost use Rattle.run.specs.Runs.{record_now, ran_with, Runs};
 ghost use Rattle.model.specs.Words.{answer_words};
 
-use entries::Header;
+use entries::{Answered, Header};
 use model::{Answer, FrameAllocator};
 use run_calls::RunCall;
 
@@ -93,7 +93,11 @@ fn record_now(number: u64, a: FrameAllocator, h: Header, slots: &[u64]) -> Frame
     if number != 0 {
         return a;
     }
-    let closed = packing::close(a, entries::accepted(h, 0), slots);
+    let done = Answered {
+        answer: Answer::counted(0),
+        header: h,
+    };
+    let closed = packing::close(a, done, slots);
     closed.allocator
 }
 

@@ -141,7 +141,7 @@ pub fn make_open(
 {
     let refusal = number_for(call, number, held.len());
     if refusal != 0 {
-        return entries::refused(h, refusal);
+        return answered(h, rules::without_frames(refusal, 0));
     }
     match call {
         OpenCall::Allocate(request) => {

@@ -11,9 +11,8 @@ pub returns-then-number-ne0 : goal.returns-then-number-ne0
 returns-then-number-ne0 c = sym (other_is c.args.number c.if-number-ne0.true c.args.a c.args.h c.args.slots.now)
 
 pub close-closed-requires : goal.close-closed-requires
-close-closed-requires c = subst (λ (d : Answered). Closable (c.args.a.sorted && d.header.sorted) c.args.slots.now) (sym c.accepted.ensures) (c.requires c.if-number-ne0.false)
+close-closed-requires c = c.requires c.if-number-ne0.false
 
 pub returns : goal.returns
 returns c = ap (λ (x : Called). x.allocator) c.close-closed.ensures
-    ∙ ap (λ (d : Answered). closed c.args.a d.header c.args.slots.now) c.accepted.ensures
     ∙ sym (zero_is c.args.number c.if-number-ne0.false c.args.a c.args.h c.args.slots.now)

@@ -2,7 +2,8 @@
 use mathlib.Core.Path.{◌≡◌, sym, ap, ◌∙◌}
 use Prim.Native.Nat.{ℕ}
 use lib.ListN.{length}
-use Rattle.entries.specs.Whole.{refused_with, Ruled}
+use Rattle.model.specs.declared.Answer.{Answer}
+use Rattle.entries.specs.Whole.{answered_with, refused_with, Ruled}
 use Rattle.packing.specs.Open.{lent}
 use Rattle.run_calls.specs.Commands.{open_call}
 use Rattle.run_calls.specs.Made.{number_for, refused}
@@ -10,7 +11,7 @@ use Rattle.run_calls.proofs.Making.{goes_on, long_number_held, request_made, ret
 use Rattle.run_calls.proofs.make_open.Goals as goal
 
 pub returns-then-refusal-ne0 : goal.returns-then-refusal-ne0
-returns-then-refusal-ne0 c = refused (λ z. c.if-refusal-ne0.true (c.number_for-refusal.ensures ∙ z)) (c.refused.ensures ∙ ap (λ (m : ℕ). refused_with m c.args.h) c.number_for-refusal.ensures)
+returns-then-refusal-ne0 c = refused (λ z. c.if-refusal-ne0.true (c.number_for-refusal.ensures ∙ z)) (c.answered.ensures ∙ ap (λ (x : Answer). answered_with x c.args.h) c.without_frames.ensures ∙ ap (λ (m : ℕ). refused_with m c.args.h) c.number_for-refusal.ensures)
 
 pub operate-requires : goal.operate-requires
 operate-requires c =
