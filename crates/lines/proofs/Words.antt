@@ -28,9 +28,6 @@ not_a_digit n b other = go (leb 48 b) refl
     go true e = rw (lt-leb b 57 (other (leb-true 48 b e)))
     go false e = refl
 
-pub below_digits : (n b : ℕ) → b < 48 → None ≡ with_digit n b
-below_digits n b low = not_a_digit n b (λ h. omega arith)
-
 pub too_large : (n b : ℕ) → 48 ≤ b → b ≤ 57 → 2 ^ 64 ≤ n * 10 + (b - 48) → None ≡ with_digit n b
 unfolding with_digit number
 too_large n b low high large = rw (le-leb 48 b low, le-leb b 57 high, le-ltb (n * 10 + (b - 48)) (2 ^ 64) large)
