@@ -59,7 +59,7 @@ pub returns-in-KindOf : goal.returns-in-KindOf
 returns-in-KindOf c =
     let zero : number_for (open_call (length c.args.held.now) c.args.call) c.args.number ≡ 0 = sym c.number_for-refusal.ensures ∙ c.if-refusal-ne0.false in
     let ruled : Ruled c.args.h (lent c.args.h.sorted c.args.slots.now c.args.words.now) = c.requires (goes_on (open_call (length c.args.held.now) c.args.call) c.args.number zero) in
-    kind_made c.args.call c.args.number c.args.held.now zero ruled c.answered.ensures c.in-KindOf.is c.kind.ensures
+    kind_made c.args.call c.args.number c.args.held.now zero ruled c.answered-in-KindOf.ensures c.in-KindOf.is c.kind.ensures
 
 pub returns-in-FreeTotal : goal.returns-in-FreeTotal
 returns-in-FreeTotal c =
