@@ -1,9 +1,6 @@
 -- `record_now`: the record as it was, or closed.
-use mathlib.Core.Path.{sym, ap, subst, ◌∙◌}
-use mathlib.Core.Bool.{◌&&◌}
+use mathlib.Core.Path.{sym, ap, ◌∙◌}
 use Rattle.model.specs.declared.Called.{Called}
-use Rattle.entries.specs.declared.header.Answered.{Answered}
-use Rattle.packing.specs.Packed.{Closable, closed}
 use Rattle.run.proofs.Opened.{zero_is, other_is}
 use Rattle.run.proofs.record_now.Goals as goal
 
