@@ -26,11 +26,11 @@ returns-in-Sort c = rw (sym c.read_command.ensures ∙ c.in-Some.is ∙ ap Some 
 
 pub returns-in-Count : goal.returns-in-Count
 unfolding answered
-returns-in-Count c = rw (sym c.read_command.ensures ∙ c.in-Some.is ∙ ap Some c.in-Count.is) (tells (omega arith) c.requires c.allocate_frames.ensures c.tell-in-Count.ensures)
+returns-in-Count c = rw (sym c.read_command.ensures ∙ c.in-Some.is ∙ ap Some c.in-Count.is) (tells (omega arith) c.requires c.allocate.ensures c.tell-in-Count.ensures)
 
 pub returns-in-At : goal.returns-in-At
 unfolding answered
-returns-in-At c = rw (sym c.read_command.ensures ∙ c.in-Some.is ∙ ap Some c.in-At.is) (tells (omega arith) c.requires c.allocate_frames_at.ensures c.tell-in-At.ensures)
+returns-in-At c = rw (sym c.read_command.ensures ∙ c.in-Some.is ∙ ap Some c.in-At.is) (tells (omega arith) c.requires c.allocate-in-At.ensures c.tell-in-At.ensures)
 
 pub returns-in-Give : goal.returns-in-Give
 unfolding answered
