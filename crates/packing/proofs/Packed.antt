@@ -2,7 +2,7 @@
 use mathlib.Core.Path.{◌≡◌, refl, sym, ap, subst, ◌∙◌}
 use mathlib.Core.Bool.{Bool, true, false, false≢true, ◌&&◌}
 use mathlib.Core.List.{List, [], ◌++◌, append-nil}
-use Prim.Native.Nat.{ℕ, ◌+◌}
+use Prim.Native.Nat.{ℕ}
 use native.Mathlib.Omega.{arith}
 use lib.ListN.{length, length-append, drop_of_length-le, replicate}
 use Rattle.model.specs.Lists.{Lists, Slot, unused}
@@ -12,7 +12,7 @@ use Rattle.model.specs.declared.EarlyList.{EarlyList}
 use Rattle.model.specs.declared.FrameAllocator.{FrameAllocator}
 use Rattle.model.proofs.Lawful.{AllSound, Slots, Lawful}
 use Rattle.model.proofs.Ruled.{lawful_rules}
-use Rattle.model.proofs.Stored.{Kept, sorted, words_length}
+use Rattle.model.proofs.Stored.{Kept, words_length}
 use Rattle.model.proofs.Whole.{Tested}
 use Rattle.pairs.specs.Pairs.{pair_slots, IsPairs}
 use Rattle.pairs.proofs.Slots.{pairs_of}

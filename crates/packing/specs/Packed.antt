@@ -1,7 +1,7 @@
 -- An allocator as a header and entries, and back. The words in quotes are document 01's.
-use Rattle.std.specs.Prelude.{ℕ, ◌≤◌, ◌≡◌, Bool, true, false, ◌&&◌, List, [], ◌∷◌, ◌++◌, map, length}
+use Rattle.std.specs.Prelude.{ℕ, ◌≤◌, ◌≡◌, Bool, true, false, ◌&&◌, List, [], ◌∷◌, ◌++◌, length}
 use Rattle.model.specs.Lists.{Lists}
-use Rattle.model.specs.Store.{early_of, slot_words, range_in, is_used}
+use Rattle.model.specs.Store.{early_of, slot_words}
 use Rattle.model.specs.declared.Called.{Called}
 use Rattle.model.specs.declared.EarlyList.{EarlyList}
 use Rattle.model.specs.declared.FrameAllocator.{FrameAllocator}

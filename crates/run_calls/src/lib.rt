@@ -29,7 +29,11 @@ pub enum RunCall {
 #[derive(Clone, Copy)]
 pub enum FormCall {
     // So many areas of the lent list, from this one on.
-    Boot { unit: AreaUnit, first: usize, count: usize },
+    Boot {
+        unit: AreaUnit,
+        first: usize,
+        count: usize,
+    },
     Sort,
 }
 

@@ -1,9 +1,9 @@
 -- `put_list`: the name, the entries in the list's own part, and the end.
-use Prim.Native.Nat.{ℕ, ◌+◌, ◌≤◌}
+use Prim.Native.Nat.{◌+◌, ◌≤◌}
 use mathlib.Core.Path.{subst}
 use mathlib.Core.List.{List}
 use Rattle.model.specs.Lists.{Slot, entries}
-use Rattle.entries.specs.Whole.{lists_in, slots_at}
+use Rattle.entries.specs.Whole.{lists_in}
 use Rattle.entries.proofs.Whole.{lent_fits, lent_slots, lent_tidy}
 use Rattle.bench_texts.specs.Texts.{Puts}
 use Rattle.bench_texts.proofs.Puts.{puts_then}

@@ -1,6 +1,5 @@
 -- `perform`: refused by 3 or 11; or opened, done and closed.
 use mathlib.Core.Path.{◌≡◌, sym, subst, ◌∙◌}
-use mathlib.Core.Bool.{false}
 use Rattle.model.specs.Calls.{Gives}
 use Rattle.model.specs.declared.Called.{Called}
 use Rattle.rules.specs.Check.{checked}

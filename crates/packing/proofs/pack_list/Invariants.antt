@@ -1,6 +1,5 @@
 -- `pack_list`: at each turn the first i pairs are written.
 use mathlib.Core.Path.{◌≡◌}
-use Prim.Native.Nat.{◌≤◌}
 use lib.ListN.{length}
 use Rattle.packing.proofs.Turns.{packed_to}
 use Rattle.packing.proofs.pack_list.Given as goal
