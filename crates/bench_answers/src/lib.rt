@@ -113,6 +113,7 @@ impl Bench {
         Reply { bench, len }
     }
 
+    // "Prints the four lists", each from where the last ended: the clause joins four lines, which a loop over the lists says no plainer.
     fn list(self, out: &mut [u8], words: &[u64]) -> Reply
         requires ruled { Ruled self.allocator words.now }
         requires reply_room_in_bounds { reply_room ≤ length out.old }

@@ -24,7 +24,7 @@ impl AreaCounts {
         }
     }
 
-    // How many words the areas take.
+    // How many words the areas take. `Few` stays a clause: as a ghost field, each `AreaCounts` that the definitions make would carry it.
     pub fn words_used(self) -> usize
         requires { Few self }
         ensures { result ≡ words_used self }

@@ -1,79 +1,97 @@
--- The lines of a text, as the loop takes them.
+-- The parts of a text, as the loop takes them: each but the last ends in byte 10, which stands nowhere before.
 use native.Mathlib.Omega.{arith}
-use Prim.Native.Nat.{ℕ, suc, ◌+◌, ◌-◌, ◌≤◌, ◌<◌}
+use Prim.Native.Nat.{ℕ, suc, ◌+◌, ◌≤◌, ◌<◌, min}
 use mathlib.Core.Path.{◌≡◌, refl, sym, ap, subst, ◌∙◌}
-use mathlib.Core.List.{List, [], ◌++◌}
-use lib.ListN.{length, take, drop, length-drop}
-use lib.Seq.{take-length, take_all, drop-drop}
-use Rattle.lines.specs.Bytes.{slice, index_of}
+use mathlib.Core.Bool.{false}
+use mathlib.Core.Logic.{⊎_elim}
+use mathlib.Core.List.{List, [], ◌∷◌, ◌++◌, append_assoc, append-nil}
+use lib.ListN.{length, get_or, take, drop, length-take, take-append-drop, drop_of_length-le}
+use lib.Seq.{drop-cons, take_all}
+use borrow.Author.Tests.{eqb-true}
+use Rattle.std.proofs.Common.{All, Option, ◌==◌}
+use Rattle.std.specs.List.{IsFirstMatchOrLen}
+use Rattle.std.proofs.lemmas.Bool.{cases_lt}
+use Rattle.std.proofs.lemmas.Grind.{common_steps}
+use Rattle.std.proofs.lemmas.List.Elements.{All-head, All-tail}
 use Rattle.bench_lines.specs.Commands.{command_of}
-use Rattle.std.proofs.Common.{Option}
 use Rattle.bench_lines.specs.declared.Command.{Command}
 use Rattle.bench_lines.specs.Lines.{lines_from, rest_from, LineHeld}
-use Rattle.bench_lines.proofs.Held.{held_decides}
-use Rattle.bench_lines.proofs.Lines.{line_first, rest_first, lines_none, rest_none}
+use Rattle.bench_lines.proofs.Lines.{lines_append, rest_append}
 use Rattle.bench_answers.specs.Answered.{State, answered, state_after}
+use Rattle.bench_answers.proofs.Lasting.{state_append}
 
--- the next line end, from a place on
-pub record NextEnd (text : List ℕ) (at end : ℕ) : Type 0 where
-  pub from : at ≤ end
-  pub within : end ≤ length text
-  pub found : end ≡ at + index_of 10 (drop at text)
+-- no byte ends a line
+abbrev pub Unended : List ℕ → Type 0
+Unended w = All (λ b. (b == 10) ≡ false) w
 
-pub next_end : (text : List ℕ) {at end : ℕ} → end ≡ at + index_of 10 (slice at (length text) text) → end ≤ length text → NextEnd text at end
-unfolding slice
-next_end text {at} is inside =
-    let place = is ∙ ap (λ (t : List ℕ). at + index_of 10 (drop at t)) (take-length text) in
-    record { from = omega (arith, place); within = inside; found = place }
+line_of : (came w : List ℕ) → Unended w → lines_from came (w ++ (10 ∷ [])) ≡ (came ++ w) ∷ []
+unfolding lines_from
+line_of came [] u = ap (λ (l : List ℕ). l ∷ []) (sym (append-nil came))
+line_of came (b ∷ w) u =
+    rw (All-head (λ x. (x == 10) ≡ false) b w u)
+    (line_of (came ++ (b ∷ [])) w (All-tail (λ x. (x == 10) ≡ false) b w u) ∙ ap (λ (l : List ℕ). l ∷ []) (append_assoc came (b ∷ []) w))
 
--- the lines that are left, answered from here, are all of them answered from the first
-pub record Going (text came : List ℕ) (first : State) (held : List ℕ) (at : ℕ) (s : State) : Type 0 where
-  pub state : state_after (lines_from held (drop at text)) s ≡ state_after (lines_from came text) first
-  pub rest : rest_from held (drop at text) ≡ rest_from came text
+rest_of : (came w : List ℕ) → Unended w → rest_from came (w ++ (10 ∷ [])) ≡ []
+unfolding rest_from
+rest_of came [] u = refl
+rest_of came (b ∷ w) u = rw (All-head (λ x. (x == 10) ≡ false) b w u) (rest_of (came ++ (b ∷ [])) w (All-tail (λ x. (x == 10) ≡ false) b w u))
 
-pub going_starts : (text came : List ℕ) (first : State) → Going text came first came 0 first
-going_starts text came first = record { state = refl; rest = refl }
+no_line : (came w : List ℕ) → Unended w → lines_from came w ≡ []
+unfolding lines_from
+no_line came [] u = refl
+no_line came (b ∷ w) u = rw (All-head (λ x. (x == 10) ≡ false) b w u) (no_line (came ++ (b ∷ [])) w (All-tail (λ x. (x == 10) ≡ false) b w u))
 
-module _ {text came held : List ℕ} {first s : State} {at end : ℕ} (next : NextEnd text at end) where
+all_rest : (came w : List ℕ) → Unended w → rest_from came w ≡ came ++ w
+unfolding rest_from
+all_rest came [] u = sym (append-nil came)
+all_rest came (b ∷ w) u =
+    rw (All-head (λ x. (x == 10) ≡ false) b w u)
+    (all_rest (came ++ (b ∷ [])) w (All-tail (λ x. (x == 10) ≡ false) b w u) ∙ append_assoc came (b ∷ []) w)
+
+-- ---- a part of what is left of the text, as `split_inclusive` cuts it
+module _ (whole part left : List ℕ) (i : ℕ) (cut : whole ≡ part ++ left) (long : length part ≡ min (i + 1) (length whole)) (at : IsFirstMatchOrLen (λ (b : ℕ). b == 10) whole i) where
+  pub part_ended : (w : List ℕ) → part ≡ w ++ (10 ∷ []) → Unended w
+  part_ended w is = λ k d l. let n = ap length is in let a = at.0 k d (omega arith) (grind (arith, common_steps)) in grind (arith, common_steps)
+
+  pub part_open : ((front : List ℕ) → part ≡ front ++ (10 ∷ []) → ⊥) → Unended part
+  part_open none = ⊎_elim
+      (λ (l : i < length whole).
+      let n : length part ≡ i + 1 = omega arith in
+      let hit : get_or part i 0 ≡ 10 = eqb-true _ 10 (let a = at.1 l 0 in grind (arith, common_steps)) in
+      let last : drop i part ≡ 10 ∷ [] = drop-cons part i 0 (omega arith) ∙ rw (hit, drop_of_length-le part {i = suc i} (omega arith)) refl in
+      absurd (none (take i part) (sym (take-append-drop i part) ∙ ap (λ (t : List ℕ). take i part ++ t) last)))
+      (λ l k d m. let a = at.0 k d (omega arith) (grind (arith, common_steps)) in grind (arith, common_steps))
+      (cases_lt i (length whole))
+
+-- ---- the text so far, with one more part
+module _ (came text w : List ℕ) (first : State) {s : State} (u : Unended w) (so_far : s ≡ state_after (lines_from came text) first) where
   -- a line that ends is answered
-  pub going_on : {line : List ℕ} {len : ℕ} {t : State} → end < length text → Going text came first held at s → 128 < length line →
-      LineHeld (held ++ take (end - at) (drop at text)) line len → t ≡ (answered (command_of (take len line)) s).state → Going text came first [] (end + 1) t
+  pub state_on : {c : Option Command} {t : State} → c ≡ command_of (rest_from came text ++ w) → t ≡ (answered c s).state → t ≡ state_after (lines_from came (text ++ (w ++ (10 ∷ [])))) first
   unfolding state_after
-  going_on {line} {len} {t} more g wide h did = record { state = stepped ∙ g.state; rest = sym later ∙ g.rest }
-    where
-      there : index_of 10 (drop at text) < length (drop at text)
-      there = simp length-drop (omega (arith, next.found, next.from, next.within))
+  state_on is did =
+      did ∙ ap (λ (x : Option Command). (answered x s).state) is
+      ∙ ap (λ (x : State). (answered (command_of (rest_from came text ++ w)) x).state) so_far
+      ∙ sym (state_append (lines_from came text) ((rest_from came text ++ w) ∷ []) first)
+      ∙ ap (λ (ls : List (List ℕ)). state_after (lines_from came text ++ ls) first) (sym (line_of (rest_from came text) w u))
+      ∙ ap (λ (ls : List (List ℕ)). state_after ls first) (sym (lines_append came text (w ++ (10 ∷ []))))
 
-      long : end - at ≡ index_of 10 (drop at text)
-      long = omega (arith, next.found)
+  -- one that does not is held
+  pub state_stays : s ≡ state_after (lines_from came (text ++ w)) first
+  state_stays =
+      so_far
+      ∙ ap (λ (ls : List (List ℕ)). state_after ls first) (sym (append-nil (lines_from came text)))
+      ∙ ap (λ (ls : List (List ℕ)). state_after (lines_from came text ++ ls) first) (sym (no_line (rest_from came text) w u))
+      ∙ ap (λ (ls : List (List ℕ)). state_after ls first) (sym (lines_append came text w))
 
-      onward : drop (suc (index_of 10 (drop at text))) (drop at text) ≡ drop (end + 1) text
-      onward =
-          let place : at + suc (index_of 10 (drop at text)) ≡ end + 1 = omega (arith, next.found) in
-          drop-drop (suc (index_of 10 (drop at text))) at text ∙ ap (λ (n : ℕ). drop n text) place
+pub held_none : (came text w line : List ℕ) → Unended w → LineHeld (rest_from came (text ++ (w ++ (10 ∷ [])))) line 0
+held_none came text w line u =
+    subst (λ (r : List ℕ). LineHeld r line 0) (sym (rest_append came text (w ++ (10 ∷ [])) ∙ rest_of (rest_from came text) w u))
+    (record { fits = omega arith; bytes = sym (take_all (length line) [] (omega arith)) })
 
-      same_line : command_of (take len line) ≡ command_of (held ++ take (index_of 10 (drop at text)) (drop at text))
-      same_line = held_decides wide h ∙ ap (λ (n : ℕ). command_of (held ++ take n (drop at text))) long
+pub held_more : (came text w : List ℕ) → Unended w → {line : List ℕ} {len : ℕ} → LineHeld (rest_from came text ++ w) line len → LineHeld (rest_from came (text ++ w)) line len
+held_more came text w u {line} {len} = subst (λ (r : List ℕ). LineHeld r line len) (sym (rest_append came text w ∙ all_rest (rest_from came text) w u))
 
-      stepped : state_after (lines_from [] (drop (end + 1) text)) t ≡ state_after (lines_from held (drop at text)) s
-      stepped =
-          ap (state_after (lines_from [] (drop (end + 1) text))) (did ∙ ap (λ (c : Option Command). (answered c s).state) same_line)
-          ∙ ap (λ (l : List ℕ). state_after (lines_from [] l) (answered (command_of (held ++ take (index_of 10 (drop at text)) (drop at text))) s).state) (sym onward)
-          ∙ ap (λ (ls : List (List ℕ)). state_after ls s) (sym (line_first held (drop at text) there))
-
-      later : rest_from held (drop at text) ≡ rest_from [] (drop (end + 1) text)
-      later = rest_first held (drop at text) there ∙ ap (rest_from []) onward
-
-  -- no line ends any more
-  module _ (none : length text ≤ end) (g : Going text came first held at s) where
-    last : length (drop at text) ≤ index_of 10 (drop at text)
-    last = simp length-drop (omega (arith, next.found))
-
-    pub going_ends : s ≡ state_after (lines_from came text) first
-    unfolding state_after
-    going_ends = ap (λ (ls : List (List ℕ)). state_after ls s) (sym (lines_none held (drop at text) last)) ∙ g.state
-
-    pub rest_held : {line : List ℕ} {len : ℕ} → LineHeld (held ++ take (length text - at) (drop at text)) line len → LineHeld (rest_from came text) line len
-    rest_held {line} {len} h =
-        let all : take (length text - at) (drop at text) ≡ drop at text = take_all (length text - at) (drop at text) (simp length-drop (omega arith)) in
-        subst (λ (t : List ℕ). LineHeld t line len) (ap (◌++◌ held) all ∙ sym (rest_none held (drop at text) last) ∙ g.rest) h
+-- what is held before any of the text has come
+pub held_first : (line : List ℕ) (n : ℕ) → n ≤ length line → LineHeld (rest_from (take n line) []) line n
+unfolding rest_from
+held_first line n in-line = record { fits = in-line; bytes = sym (take_all (length line) (take n line) (omega (arith, length-take n line))) }

@@ -90,17 +90,15 @@ fn answer_lines(reached: Reached, text: &[u8], buffers: &mut Buffers) -> Reached
 {
     let mut bench = reached.bench;
     let mut held = reached.held;
-    let mut at = 0;
-    let mut end = lines::find(text, 0, text.len(), b'\n');
-    while end < text.len() {
-        held = bench_lines::hold(&mut buffers.line, held, &text[at..end]);
-        let reply = answer_line(Reached { bench, held }, buffers);
-        bench = reply.bench;
-        held = 0;
-        at = end + 1;
-        end = lines::find(text, at, text.len(), b'\n');
+    for part in text.split_inclusive(|b| *b == b'\n') {
+        if let Some(line) = part.strip_suffix(b"\n") {
+            held = bench_lines::hold(&mut buffers.line, held, line);
+            bench = answer_line(Reached { bench, held }, buffers).bench;
+            held = 0;
+        } else {
+            held = bench_lines::hold(&mut buffers.line, held, part);
+        }
     }
-    held = bench_lines::hold(&mut buffers.line, held, &text[at..]);
     Reached { bench, held }
 }
 
@@ -115,6 +113,7 @@ fn answer_line(reached: Reached, buffers: &mut Buffers) -> Reply
     let reply = reached
         .bench
         .answer(line, out, &mut buffers.areas, &mut buffers.words);
+    // Not `writeln!`: the text is bytes of a lent buffer, and where writing fails the next line is answered all the same.
     io::write_all(STDOUT_FILENO, &buffers.out[..reply.len]);
     reply
 }

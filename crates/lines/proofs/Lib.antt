@@ -1,3 +1,2 @@
-pub mod Bytes
 pub mod Meaning
 pub mod Words

@@ -1,9 +1,5 @@
--- A part of a text, and where a byte stands in it. A text is a list of bytes.
-use Rattle.std.specs.Prelude.{ℕ, Bool, true, false, List, [], ◌∷◌, take, drop, eqb, suc}
-
--- the bytes from the place `from` on and below `to`
-unfoldable pub slice : ℕ → ℕ → List ℕ → List ℕ
-slice from to t = drop from (take to t)
+-- Where a byte stands in a text. A text is a list of bytes.
+use Rattle.std.specs.Prelude.{ℕ, Bool, true, false, List, [], ◌∷◌, eqb, suc}
 
 -- 0 where the byte is there, and else one more than its place among the others
 unfoldable pub index_after : Bool → ℕ → ℕ

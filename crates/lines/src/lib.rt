@@ -2,8 +2,7 @@
 // programs that replay the Rust's answers.
 #![tactic(auto)]
 
-ghost use Rattle.std.specs.Prelude.{◌≡◌, ◌≤◌, ◌+◌, length, drop};
-ghost use Rattle.lines.specs.Bytes as bytes;
+ghost use Rattle.std.specs.Prelude.{◌≡◌, ◌≤◌, length, drop};
 ghost use Rattle.lines.specs.Words as words;
 
 // What the words that follow a name are: numbers, or areas of two numbers and a kind each.
@@ -57,21 +56,6 @@ impl Reading {
             },
         }
     }
-}
-
-// Where the first such byte stands from the place `from` on and below `to`; `to` where there is none.
-pub fn find(text: &[u8], from: usize, to: usize, byte: u8) -> usize
-    requires in_order { from ≤ to }
-    requires in_bounds { to ≤ length text.now }
-    ensures first { result ≡ from + bytes.index_of byte (bytes.slice from to text.now) }
-    ensures in_bounds { result ≤ to }
-{
-    for i in from..to {
-        if text[i] == byte {
-            return i;
-        }
-    }
-    to
 }
 
 // Reads the words that follow the name, which ends here.

@@ -32,30 +32,22 @@ mod broken;
 mod lines_called;
 mod reading;
 mod shown;
-mod written;
 
-ghost use Rattle.std.specs.Prelude.{◌≤◌, length};
+use std::io::{self, BufRead, BufReader, BufWriter, Write};
 
-// Reads up to 262,144 bytes of text.
-fn main() {
-    let mut text = [0; 262144];
-    let n = io::read_full(0, &mut text);
+// Answers each line; the last may lack its line end.
+fn main(rt: HostRuntime) -> io::Result<()> {
+    let alloc = rt.alloc();
+    let mut out = BufWriter::new(alloc, io::writer(&rt))?;
     // Room for 40 areas, so that 33 reserved ones or 33 pieces fit.
     let mut numbers = [0; 120];
     let mut words = [1; 4096];
-    replay(&text[..n], &mut words, &mut numbers);
-}
-
-// Answers each line of the text; the last may lack its line end.
-fn replay(text: &[u8], words: &mut [u64], numbers: &mut [u64])
-    requires { 4096 ≤ length words.old }
-{
     let mut a = lists::fresh();
-    for line in text.split_inclusive(|b| *b == b'\n') {
-        let line = line.strip_suffix(b"\n").unwrap_or(line);
-        match reading::read_line(line, numbers) {
-            Some(line) => a = lines_called::answer(a, words, line),
-            None => written::bad(),
+    for line in BufReader::new(alloc, rt.reader())?.split(alloc, b'\n') {
+        match reading::read_line(&line?, &mut numbers) {
+            Some(line) => a = lines_called::answer(&mut out, a, &mut words, line)?,
+            None => writeln!(out, "(bad)")?,
         }
     }
+    out.flush()
 }

@@ -1,17 +1,12 @@
--- `answer_lines` takes each line once, and every line leaves the bench ready for the next.
-use Prim.Native.Nat.{◌-◌}
-use lib.ListN.{length, take}
-use Rattle.bench_answers.specs.Replies.{state_of}
-use Rattle.framebench.specs.Reached.{ReadyAt}
-use Rattle.framebench.proofs.Going.{NextEnd, Going}
+-- `answer_lines`: the text so far is answered, and the rest is what is left to cut.
+use Rattle.std.proofs.Common.{◌≡◌, List, ℕ, ◌++◌}
+use Rattle.framebench.specs.Reached.{ReadyAt, AnswersLines}
 use Rattle.framebench.proofs.answer_lines.Given as goal
 
-abbrev pub invariant-loop-end : goal.invariant-loop-end
-invariant-loop-end l = record {
-  next : NextEnd l.text l.at l.end;
+abbrev pub invariant-loop-part : goal.invariant-loop-part
+invariant-loop-part l = record {
   ready : ReadyAt (record { bench = l.bench; held = l.held }) l.buffers.line l.buffers.out l.buffers.areas l.buffers.words;
-  going : Going l.text (take l.initial.held l.initial.buffers.line) (state_of l.initial.bench l.initial.buffers.areas l.initial.buffers.words) (take l.held l.buffers.line) l.at (state_of l.bench l.buffers.areas l.buffers.words);
+  so_far : List ℕ;
+  parted : l.text ≡ so_far ++ l.part-iterator.rest.now;
+  answers : AnswersLines so_far l.fn.reached l.fn.buffers.line l.fn.buffers.areas l.fn.buffers.words (record { bench = l.bench; held = l.held }) l.buffers.line l.buffers.areas l.buffers.words;
 }
-
-abbrev pub decreases-loop-end : goal.decreases-loop-end
-decreases-loop-end l = length l.text - l.end

@@ -3,5 +3,5 @@ use native.Mathlib.Omega.{arith}
 use lib.ListN.{length-take}
 use Rattle.replay_calls.proofs.shown.sorted.Goals as goal
 
-pub slice_bounds-put_pairs-end : goal.slice_bounds-put_pairs-end
-slice_bounds-put_pairs-end c = simp length-take (omega (arith, c.requires))
+pub slice_bounds-pairs-end : goal.slice_bounds-pairs-end
+slice_bounds-pairs-end g c = simp length-take (omega (arith, c.requires))
