@@ -16,7 +16,7 @@ use Rattle.model.specs.declared.FrameAllocator.{FrameAllocator}
 use Rattle.model.specs.declared.refusals.Refusal.{Refusal}
 use Rattle.model.specs.declared.refusals.Refusal.TheVariants.{TooFewWords}
 use Rattle.model.specs.Refusals.{number, refused_answer}
-use Rattle.model.proofs.Refusals.{numbered, number_of_answer}
+use Rattle.rules.proofs.Refusals.{numbered, answers_number}
 use Rattle.std.specs.Prelude.{Ok, Err}
 use Rattle.rules.specs.Check.{checked, verdict}
 use Rattle.rules.proofs.Numbers.{short_call, gives_refused, accepted_call, passed_number, verdict_ruled}
@@ -44,7 +44,7 @@ module _ (a : FrameAllocator) (ws before : List ℕ) where
   -- a refusal keeps the buffer
   kept : (r : Refusal) → {x : Answer} → x ≡ refused_answer r → Answers listing a ws x → ListsHeld a ws before x before
   kept r e k =
-      let same : (call listing a ws).answer.number ≡ number r = sym (ap (λ (y : Answer). y.number) k) ∙ ap (λ (y : Answer). y.number) e ∙ number_of_answer r in
+      let same : (call listing a ws).answer.number ≡ number r = sym (ap (λ (y : Answer). y.number) k) ∙ ap (λ (y : Answer). y.number) e ∙ answers_number r in
       record { answers = k; buffer = record { accepted = λ h. absurd (numbered r (sym same ∙ h)); otherwise = λ h. refl } }
 
   pub held_short : length before < 2048 → {x : Answer} → x ≡ refused_answer TooFewWords → ListsHeld a ws before x before
