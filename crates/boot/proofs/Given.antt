@@ -39,7 +39,16 @@ after_10 l xs e = rw e
 -- no boot is refused by 15
 not_15 : (l : Lists) (xs : List BootArea) → boot_number l xs ≡ 15 → ⊥
 unfolding boot_number model.refusal
-not_15 l xs = ?
+not_15 l xs = go _ _ _ _ _ _
+  where
+    go : (n x y o p q : Bool) → ◌≡◌ {A = ℕ} (if n then (if x then 5 else if y then 4 else if o then 2 else if p then 7 else if q then 0 else 6) else 10) 15 → ⊥
+    go true true y o p q e = absurd (omega arith)
+    go true false true o p q e = absurd (omega arith)
+    go true false false true p q e = absurd (omega arith)
+    go true false false false true q e = absurd (omega arith)
+    go true false false false false true e = absurd (omega arith)
+    go true false false false false false e = absurd (omega arith)
+    go false x y o p q e = absurd (omega arith)
 
 -- on lists
 module _ (c : Call) (xs : List BootArea) (is : IsBoot c xs) (l : Lists) where
