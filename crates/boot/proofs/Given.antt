@@ -1,6 +1,6 @@
 -- What a boot gives: a boot of a record that keeps the rules goes by its number.
 use Prim.Native.Nat.{ℕ}
-use mathlib.Core.Path.{◌≡◌, sym, ap, ◌∙◌}
+use mathlib.Core.Path.{◌≡◌, sym, ap, subst, ◌∙◌}
 use mathlib.Core.Bool.{Bool, true, false, not}
 use native.Mathlib.Omega.{arith}
 use mathlib.Core.List.{List}
@@ -14,9 +14,13 @@ use Rattle.model.specs.Requests.{Result, refused, counted, without_frames}
 use Rattle.model.specs.Store.{load, record_of}
 use Rattle.model.specs.Calls.{Call, Gives, answer, boot, no_entries}
 use Rattle.model.specs.declared.FrameAllocator.{FrameAllocator}
+use Rattle.model.specs.declared.Answer.{Answer}
+use Rattle.model.specs.Refusals.{number}
+use Rattle.model.specs.declared.refusals.Refusal.{Refusal}
 use Rattle.model.proofs.Whole.{early_words}
-use Rattle.rules.specs.Check.{refused_with, accepted_with, Ruled}
+use Rattle.rules.specs.Check.{answered_with, refused_with, accepted_with, Ruled}
 use Rattle.rules.proofs.Lasting.{ruled_checked}
+use Rattle.rules.proofs.Refusals.{numbered, without_15}
 use Rattle.rules.proofs.Numbers.{gives_stored, gives_unchanged}
 use Rattle.areas.specs.declared.BootArea.{BootArea}
 use Rattle.areas.specs.Areas.{extents, any_outside}
@@ -31,6 +35,20 @@ ten l xs e = rw e
 pub after_10 : (l : Lists) (xs : List BootArea) → no_entries l ≡ true → boot_number l xs ≡ model.refusal (any_outside xs) (extents xs)
 unfolding boot_number
 after_10 l xs e = rw e
+
+-- no boot is refused by 15
+not_15 : (l : Lists) (xs : List BootArea) → boot_number l xs ≡ 15 → ⊥
+unfolding boot_number model.refusal
+not_15 l xs = go _ _ _ _ _ _
+  where
+    go : (n x y o p q : Bool) → ◌≡◌ {A = ℕ} (if n then (if x then 5 else if y then 4 else if o then 2 else if p then 7 else if q then 0 else 6) else 10) 15 → ⊥
+    go true true y o p q e = absurd (omega arith)
+    go true false true o p q e = absurd (omega arith)
+    go true false false true p q e = absurd (omega arith)
+    go true false false false true q e = absurd (omega arith)
+    go true false false false false true e = absurd (omega arith)
+    go true false false false false false e = absurd (omega arith)
+    go false x y o p q e = absurd (omega arith)
 
 -- on lists
 module _ (c : Call) (xs : List BootArea) (is : IsBoot c xs) (l : Lists) where
@@ -58,11 +76,16 @@ module _ (c : Call) (xs : List BootArea) (is : IsBoot c xs) (l : Lists) where
 
 -- on a record and its words
 module _ (c : Call) (xs : List BootArea) (is : IsBoot c xs) (a : FrameAllocator) (ws : List ℕ) (u : Ruled a ws) where
-  pub gives_refusal : (n : ℕ) → n ≡ boot_number (load a ws) xs → (n ≡ 0 → ⊥) → Gives c a ws (refused_with n a) ws
+  gives_number : (n : ℕ) → n ≡ boot_number (load a ws) xs → (n ≡ 0 → ⊥) → Gives c a ws (answered_with (without_frames n 0) a) ws
   unfolding refused
-  gives_refusal n e z =
+  gives_number n e z =
       let r = refuses c xs is (load a ws) n e z in
       gives_unchanged c a ws is.no_buffer (ruled_checked a ws u) (without_frames n 0) (sym (ap (λ (x : Result). x.answer) r)) (ap (λ (x : Result). x.lists) r)
+
+  pub gives_refusal : (r : Refusal) → number r ≡ boot_number (load a ws) xs → Gives c a ws (refused_with r a) ws
+  gives_refusal r e =
+      let answers = without_15 r (λ p. not_15 (load a ws) xs (sym e ∙ p)) in
+      subst (λ (x : Answer). Gives c a ws (answered_with x a) ws) (sym answers) (gives_number (number r) e (numbered r))
 
   -- the lists filled; the words stay as they are
   pub gives_filled : 0 ≡ boot_number (load a ws) xs → Gives c a ws (accepted_with 0 (record_of (booted (extents xs)))) ws

@@ -17,7 +17,6 @@ use Rattle.model.specs.Boot.{Extent, general, reserved, reserved_of, range_of, r
 use Rattle.model.specs.Boot as model
 use Rattle.model.specs.Refusals as refusals
 use Rattle.model.specs.declared.refusals.Refusal.{Refusal}
-use Rattle.model.specs.declared.refusals.Refusal.TheVariants.{NoFrames, OutOfBounds, TooFewWords, EmptyReservedArea, TooManyReservedAreas, PiecesMeet, TooManyPieces, NotEmpty, BrokenRules, NotFound, NotFree, NoLargeChunk, Missing, MeetsReservedRegion, TooShort, NoPlace, NotHeld}
 use Rattle.model.specs.Store.{record_of}
 use Rattle.model.proofs.Boots.{join_length}
 use Rattle.model.proofs.Joined.{join_apart}
@@ -63,26 +62,6 @@ above_32 m n e = go (ltb 32 n) refl
     go : (t : Bool) → ltb 32 n ≡ t → ltb 32 m ≡ ltb 32 n
     go true p = lt-ltb 32 m (omega (arith, ltb-true 32 n p)) ∙ sym p
     go false p = le-ltb 32 m (omega (arith, ltb-false 32 n p)) ∙ sym p
-
--- no refusal has the number 0
-pub numbered : (r : Refusal) → refusals.number r ≡ 0 → ⊥
-numbered NoFrames e = absurd (omega arith)
-numbered OutOfBounds e = absurd (omega arith)
-numbered TooFewWords e = absurd (omega arith)
-numbered EmptyReservedArea e = absurd (omega arith)
-numbered TooManyReservedAreas e = absurd (omega arith)
-numbered PiecesMeet e = absurd (omega arith)
-numbered TooManyPieces e = absurd (omega arith)
-numbered NotEmpty e = absurd (omega arith)
-numbered BrokenRules e = absurd (omega arith)
-numbered NotFound e = absurd (omega arith)
-numbered NotFree e = absurd (omega arith)
-numbered NoLargeChunk e = absurd (omega arith)
-numbered (Missing f n) e = absurd (omega arith)
-numbered MeetsReservedRegion e = absurd (omega arith)
-numbered TooShort e = absurd (omega arith)
-numbered NoPlace e = absurd (omega arith)
-numbered NotHeld e = absurd (omega arith)
 
 -- a refusal handed on by `?`
 pub passed_on : {A : Type 0} (r : Result A Refusal) (e : Refusal) → IsErrAnd r (λ x. x ≡ e) → refused_by r ≡ refusals.number e

@@ -46,11 +46,10 @@ pub fn boot_words(a: FrameAllocator, areas: &[u64], unit: AreaUnit, words: &[u64
 pub fn boot_map<M: BootMap>(a: FrameAllocator, map: &M, words: &[u64]) -> Called
     ensures { Gives (M.call map.now) a words.now result words.now }
 {
-    let broken = rules::check(a, words);
-    if broken != 0 {
-        return rules::refused(a, broken);
+    match rules::check(a, words) {
+        Ok(()) => boot_ruled(a, map, words),
+        Err(refusal) => rules::refused(a, refusal),
     }
-    boot_ruled(a, map, words)
 }
 
 // The same of a record that keeps the rules.
@@ -60,7 +59,7 @@ fn boot_ruled<M: BootMap>(a: FrameAllocator, map: &M, words: &[u64]) -> Called
 {
     match filled(&a, map) {
         Ok(booted) => rules::accepted(booted, 0),
-        Err(refusal) => rules::refused(a, refusal.number()),
+        Err(refusal) => rules::refused(a, refusal),
     }
 }
 

@@ -40,8 +40,8 @@ fn perform(a: FrameAllocator, words: &mut [u64], operation: Operation) -> Called
 {
     let mut slots = [0u64; 256];
     let opened = rules::open(a, words, &mut slots);
-    if opened.number != 0 {
-        return rules::refused(a, opened.number);
+    if let Err(refusal) = opened.tested {
+        return rules::refused(a, refusal);
     }
     let done = operate(opened.header, &mut slots, words, operation);
     packing::close(a, done, &slots)

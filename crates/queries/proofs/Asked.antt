@@ -7,14 +7,19 @@ use mathlib.Core.List.{List}
 use lib.ListN.{length}
 use borrow.Author.Tests.{lt-ltb, le-ltb}
 use Rattle.model.specs.Lists.{Lists}
-use Rattle.model.specs.Requests.{without_frames, counted}
+use Rattle.model.specs.Requests.{counted}
 use Rattle.model.specs.Queries.{held_runs, HeldWritten}
 use Rattle.model.specs.Store.{load}
 use Rattle.model.specs.Calls.{Call, held_call, Outcome, answer, short_buffer, unchanged, stored, call, Answers, ListsHeld}
 use Rattle.model.specs.declared.Answer.{Answer}
 use Rattle.model.specs.declared.FrameAllocator.{FrameAllocator}
-use Rattle.rules.specs.Check.{checked}
-use Rattle.rules.proofs.Numbers.{short_call, gives_refused, accepted_call, checked_ruled}
+use Rattle.model.specs.declared.refusals.Refusal.{Refusal}
+use Rattle.model.specs.declared.refusals.Refusal.TheVariants.{TooFewWords}
+use Rattle.model.specs.Refusals.{number, refused_answer}
+use Rattle.rules.proofs.Refusals.{numbered, answers_number}
+use Rattle.std.specs.Prelude.{Ok, Err}
+use Rattle.rules.specs.Check.{checked, verdict}
+use Rattle.rules.proofs.Numbers.{short_call, gives_refused, accepted_call, passed_number, verdict_ruled}
 use Rattle.entries.specs.Whole.{lists_in, Ruled}
 use Rattle.rules.specs.Check.{Opens}
 use Rattle.packing.specs.Open.{lent}
@@ -23,11 +28,11 @@ use Rattle.rules.proofs.OpenAs.{OpenAs, apart_as, open_ruled, open_lists}
 use Rattle.query_core.specs.Listed.{Listed}
 
 module _ (c : Call) (a : FrameAllocator) (ws : List ℕ) (e : short_buffer c ≡ false) where
-  -- a number that is not 0 refuses it
-  pub answers_refused : (n : ℕ) → n ≡ checked a ws → (n ≡ 0 → ⊥) → {x : Answer} → x ≡ without_frames n 0 → Answers c a ws x
-  answers_refused n p q r = r ∙ (gives_refused c a ws e n p q).answers
+  -- the test refuses it
+  pub answers_refused : (r : Refusal) → verdict a ws ≡ Err r → {x : Answer} → x ≡ refused_answer r → Answers c a ws x
+  answers_refused r p q = q ∙ (gives_refused c a ws e r p).answers
 
-  -- 0 lets it go on
+  -- or lets it go on
   pub answers_going : checked a ws ≡ 0 → {x : Answer} → x ≡ (answer c (load a ws)).answer → Answers c a ws x
   unfolding stored
   answers_going z r = r ∙ sym (ap (λ (o : Outcome). o.answer) (accepted_call c a ws e z))
@@ -37,23 +42,23 @@ module _ (a : FrameAllocator) (ws before : List ℕ) where
   listing = held_call (length before)
 
   -- a refusal keeps the buffer
-  kept : (n : ℕ) → (n ≡ 0 → ⊥) → {x : Answer} → x ≡ without_frames n 0 → Answers listing a ws x → ListsHeld a ws before x before
-  kept n q r k =
-      let number : (call listing a ws).answer.number ≡ n = sym (ap (λ (y : Answer). y.number) k) ∙ ap (λ (y : Answer). y.number) r in
-      record { answers = k; buffer = record { accepted = λ h. absurd (q (sym number ∙ h)); otherwise = λ h. refl } }
+  kept : (r : Refusal) → {x : Answer} → x ≡ refused_answer r → Answers listing a ws x → ListsHeld a ws before x before
+  kept r e k =
+      let same : (call listing a ws).answer.number ≡ number r = sym (ap (λ (y : Answer). y.number) k) ∙ ap (λ (y : Answer). y.number) e ∙ answers_number r in
+      record { answers = k; buffer = record { accepted = λ h. absurd (numbered r (sym same ∙ h)); otherwise = λ h. refl } }
 
-  pub held_short : length before < 2048 → {x : Answer} → x ≡ without_frames 3 0 → ListsHeld a ws before x before
+  pub held_short : length before < 2048 → {x : Answer} → x ≡ refused_answer TooFewWords → ListsHeld a ws before x before
   unfolding short_buffer unchanged
   held_short h r =
-      kept 3 (λ z. omega arith) r (r ∙ sym (ap (λ (o : Outcome). o.answer) (short_call listing a ws (lt-ltb (length before) 2048 h))))
+      kept TooFewWords r (r ∙ sym (ap (λ (o : Outcome). o.answer) (short_call listing a ws (lt-ltb (length before) 2048 h))))
 
   module _ (h : 2048 ≤ length before) where
     long : short_buffer listing ≡ false
     unfolding short_buffer
     long = le-ltb (length before) 2048 h
 
-    pub held_refused : (n : ℕ) → n ≡ checked a ws → (n ≡ 0 → ⊥) → {x : Answer} → x ≡ without_frames n 0 → ListsHeld a ws before x before
-    held_refused n p q r = kept n q r (answers_refused listing a ws long n p q r)
+    pub held_refused : (r : Refusal) → verdict a ws ≡ Err r → {x : Answer} → x ≡ refused_answer r → ListsHeld a ws before x before
+    held_refused r p e = kept r e (answers_refused listing a ws long r p e)
 
     pub held_going : checked a ws ≡ 0 → {x : Answer} {after : List ℕ} → Listed (load a ws) before x after → ListsHeld a ws before x after
     unfolding answer held_runs counted
@@ -73,12 +78,12 @@ pub listed_of : {l m : Lists} {before after : List ℕ} {x : Answer} → l ≡ m
 listed_of {before = before} {after = after} {x = x} e p = subst (λ (y : Lists). Listed y before x after) e p
 
 -- a record that the test let go on, opened
-module _ {a : FrameAllocator} {ws : List ℕ} {o : Opened} {es : List ℕ} (p : Opens a ws o es) (z : o.number ≡ 0) where
+module _ {a : FrameAllocator} {ws : List ℕ} {o : Opened} {es : List ℕ} (p : Opens a ws o es) (z : o.tested ≡ Ok tt) where
   pub passed : checked a ws ≡ 0
-  passed = sym p.number ∙ z
+  passed = passed_number a ws (sym p.tested ∙ z)
 
   stands : OpenAs (load a ws) o.header es ws
-  stands = apart_as a ws p.apart (checked_ruled a ws passed)
+  stands = apart_as a ws p.apart (verdict_ruled a ws (sym p.tested ∙ z))
 
   pub may_ask : Ruled o.header (lent o.header.sorted es ws)
   may_ask = open_ruled stands

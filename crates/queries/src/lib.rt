@@ -11,7 +11,7 @@ ghost use Rattle.query_core.specs.Listed.{Listed};
 
 use entries::Header;
 use memory_structs::FrameRange;
-use model::{Answer, FrameAllocator, Kind};
+use model::{Answer, FrameAllocator, Kind, Refusal};
 
 // "the kind (0 general, 1 reserved: any frame in a reserved region)"
 pub fn kind_of_range(a: FrameAllocator, words: &[u64], range: FrameRange) -> Answer
@@ -19,8 +19,8 @@ pub fn kind_of_range(a: FrameAllocator, words: &[u64], range: FrameRange) -> Ans
 {
     let mut slots = [0u64; 256];
     let opened = rules::open(a, words, &mut slots);
-    if opened.number != 0 {
-        return rules::without_frames(opened.number, 0);
+    if let Err(refusal) = opened.tested {
+        return Answer::from(refusal);
     }
     kind(opened.header, &slots, words, range)
 }
@@ -31,8 +31,8 @@ pub fn free_total(a: FrameAllocator, words: &[u64], kind: Kind) -> Answer
 {
     let mut slots = [0u64; 256];
     let opened = rules::open(a, words, &mut slots);
-    if opened.number != 0 {
-        return rules::without_frames(opened.number, 0);
+    if let Err(refusal) = opened.tested {
+        return Answer::from(refusal);
     }
     free_frames(opened.header, &slots, words, kind)
 }
@@ -43,12 +43,12 @@ pub fn held_list(a: FrameAllocator, words: &[u64], buffer: &mut [u64]) -> Answer
     ensures { ListsHeld a words.now buffer.old result buffer.new }
 {
     if buffer.len() < 2048 {
-        return rules::without_frames(3, 0);
+        return Answer::from(Refusal::TooFewWords);
     }
     let mut slots = [0u64; 256];
     let opened = rules::open(a, words, &mut slots);
-    if opened.number != 0 {
-        return rules::without_frames(opened.number, 0);
+    if let Err(refusal) = opened.tested {
+        return Answer::from(refusal);
     }
     list_held(opened.header, &slots, words, buffer)
 }

@@ -2,7 +2,7 @@
 use Prim.Native.Nat.{ℕ, zero, suc}
 use native.Mathlib.Omega.{arith}
 use mathlib.Core.Path.{◌≡◌, refl, sym, ap, subst, ◌∙◌}
-use mathlib.Core.Bool.{◌&&◌}
+use mathlib.Core.Bool.{true, false, ◌&&◌, true≢false, false≢true}
 use mathlib.Core.List.{List}
 use lib.ListN.{length}
 use Rattle.model.specs.Lists.{Lists}
@@ -10,14 +10,17 @@ use Rattle.model.specs.Queries.{HeldWritten, held_runs}
 use Rattle.model.specs.Calls.{Call, held_call, answer, short_buffer}
 use Rattle.model.specs.Store.{load, record_of}
 use Rattle.model.specs.declared.FrameAllocator.{FrameAllocator}
+use Rattle.model.specs.declared.refusals.Refusal.{Refusal}
+use Rattle.std.specs.Prelude.{Ok, Err}
+use Rattle.std.specs.Result.{is_err}
 use Rattle.model.proofs.Carried.{Stands, loads}
 use Rattle.model.proofs.Each.{same_form}
 use Rattle.model.proofs.Lasting.{answer_lawful}
 use Rattle.model.proofs.Lawful.{Lawful}
 use Rattle.rules.specs.Check as whole
-use Rattle.rules.specs.Check.{checked}
+use Rattle.rules.specs.Check.{verdict, Verdict}
 use Rattle.rules.proofs.Going.{ruled_stands, gives_does}
-use Rattle.rules.proofs.Numbers.{checked_ruled}
+use Rattle.rules.proofs.Numbers.{passed_number, verdict_ruled}
 use Rattle.entries.specs.Whole.{lists_in, Ruled}
 use Rattle.entries.specs.declared.header.Header.{Header}
 use Rattle.entries.specs.declared.header.Answered.{Answered}
@@ -27,7 +30,7 @@ use Rattle.rules.proofs.OpenAs.{OpenAs, apart_as, open_ruled, open_lists, open_a
 use Rattle.queries.proofs.Asked.{held_going}
 use Rattle.run_calls.specs.declared.OpenCall.{OpenCall}
 use Rattle.run_calls.specs.Commands.{open_call}
-use Rattle.run_calls.specs.Made.{number_for, Made, LeftOpen, MadeOpen, refused, done}
+use Rattle.run_calls.specs.Made.{verdict_for, Made, LeftOpen, MadeOpen, refused, done}
 use Rattle.run_calls.proofs.Making.{goes_long, goes_on, made_refused, open_keeps, long_held}
 use Rattle.run.specs.Runs.{record_now}
 
@@ -39,15 +42,19 @@ pub record Standing (a : FrameAllocator) (h : Header) (es ws : List ℕ) : Type 
   pub ruled : whole.Ruled a before
   pub form : a.sorted ≡ lists.sorted
 
-pub zero_is : (n : ℕ) → n ≡ 0 → (a : FrameAllocator) (h : Header) (es : List ℕ) → record_now n a h es ≡ closed a h es
+pub passed_is : (t : Verdict) → t ≡ Ok tt → (a : FrameAllocator) (h : Header) (es : List ℕ) → record_now t a h es ≡ closed a h es
 unfolding record_now
-zero_is zero e a h es = refl
-zero_is (suc n) e a h es = absurd (omega arith)
+passed_is (Ok u) e a h es = refl
+passed_is (Err r) e a h es = let w : ◌≡◌ {A = ℕ} 0 1 = cc in absurd (omega arith)
 
-pub other_is : (n : ℕ) → (n ≡ 0 → ⊥) → (a : FrameAllocator) (h : Header) (es : List ℕ) → record_now n a h es ≡ a
+pub refused_is : (t : Verdict) → is_err t ≡ true → (a : FrameAllocator) (h : Header) (es : List ℕ) → record_now t a h es ≡ a
 unfolding record_now
-other_is zero e a h es = absurd (e refl)
-other_is (suc n) e a h es = refl
+refused_is (Ok u) e a h es = absurd (false≢true e)
+refused_is (Err r) e a h es = refl
+
+pub not_refused : (t : Verdict) → is_err t ≡ false → t ≡ Ok tt
+not_refused (Ok u) e = refl
+not_refused (Err r) e = absurd (true≢false e)
 
 module _ {a : FrameAllocator} {h : Header} {es ws : List ℕ} (s : Standing a h es ws) where
   pub standing_closes : Closable (a.sorted && h.sorted) es
@@ -66,38 +73,38 @@ module _ {a : FrameAllocator} {h : Header} {es ws : List ℕ} (s : Standing a h 
   standing_loads = loads s.lists (closed a h es) ws standing_stands
 
 -- a record taken apart is itself
-module _ (number : ℕ) (a : FrameAllocator) (ws : List ℕ) (e : number ≡ checked a ws) {h : Header} {es : List ℕ} (p : Apart a h es) where
-  pub apart_standing : number ≡ 0 → Standing a h es ws
+module _ (test : Verdict) (a : FrameAllocator) (ws : List ℕ) (e : test ≡ verdict a ws) {h : Header} {es : List ℕ} (p : Apart a h es) where
+  pub apart_standing : test ≡ Ok tt → Standing a h es ws
   unfolding load
   apart_standing z =
-      let u = checked_ruled a ws (sym e ∙ z) in
+      let u = verdict_ruled a ws (sym e ∙ z) in
       record { lists = load a ws; opens = apart_as a ws p u; before = ws; ruled = u; form = refl }
 
   same_form_kept : a.sorted ≡ (load a ws).sorted
   unfolding load
   same_form_kept = refl
 
-  pub apart_record : record_now number a h es ≡ a
-  apart_record = go number refl
+  pub apart_record : record_now test a h es ≡ a
+  apart_record = go test refl
     where
-      go : (n : ℕ) → number ≡ n → record_now number a h es ≡ a
-      go zero z =
-          let u = checked_ruled a ws (sym e ∙ z) in
-          zero_is number z a h es ∙ close_is (apart_as a ws p u) a ws u same_form_kept ∙ sym (ruled_stands a ws u).records
-      go (suc n) z = other_is number (λ y. omega arith) a h es
+      go : (t : Verdict) → test ≡ t → record_now test a h es ≡ a
+      go (Ok t) z =
+          let u = verdict_ruled a ws (sym e ∙ z) in
+          passed_is test z a h es ∙ close_is (apart_as a ws p u) a ws u same_form_kept ∙ sym (ruled_stands a ws u).records
+      go (Err r) z = refused_is test (ap is_err z) a h es
 
 held_is : (n : ℕ) (l : Lists) → (answer (held_call n) l).answer ≡ (held_runs l).answer
 unfolding answer
 held_is n l = refl
 
 -- a call on what stands open is the call on the record
-module _ (c : OpenCall) (number : ℕ) (a : FrameAllocator) (h : Header) (es ws before : List ℕ) (tested : number ≡ checked (record_now number a h es) ws) (stands : number ≡ 0 → Standing a h es ws) where
+module _ (c : OpenCall) (test : Verdict) (a : FrameAllocator) (h : Header) (es ws before : List ℕ) (tested : test ≡ verdict (record_now test a h es) ws) (stands : test ≡ Ok tt → Standing a h es ws) where
   abbrev it : Call
   it = open_call (length before) c
 
-  done_standing : (z : number_for it number ≡ 0) {d : Answered} {es-after ws-after : List ℕ} → DoesOpen (answer it) h es ws d es-after ws-after → Standing a d.header es-after ws-after
+  done_standing : (z : verdict_for it test ≡ Ok tt) {d : Answered} {es-after ws-after : List ℕ} → DoesOpen (answer it) h es ws d es-after ws-after → Standing a d.header es-after ws-after
   done_standing z x =
-      let s = stands (goes_on it number z) in
+      let s = stands (goes_on it test z) in
       let form = same_form it s.lists (open_keeps (length before) c) in
       record {
         lists = (answer it s.lists).lists;
@@ -107,28 +114,28 @@ module _ (c : OpenCall) (number : ℕ) (a : FrameAllocator) (h : Header) (es ws 
         form = s.form ∙ sym form;
       }
 
-  pub made_standing : {d : Answered} {es-after ws-after after : List ℕ} → MadeOpen it number h es ws before d es-after ws-after after → number ≡ 0 → Standing a d.header es-after ws-after
-  made_standing (refused q e) z = subst (λ (y : Header). Standing a y es ws) (sym (ap (λ (y : Answered). y.header) e)) (stands z)
+  pub made_standing : {d : Answered} {es-after ws-after after : List ℕ} → MadeOpen it test h es ws before d es-after ws-after after → test ≡ Ok tt → Standing a d.header es-after ws-after
+  made_standing (refused r q e) z = subst (λ (y : Header). Standing a y es ws) (sym (ap (λ (y : Answered). y.header) e)) (stands z)
   made_standing (done y x left) z = done_standing y x
 
-  done_made : (z : number_for it number ≡ 0) {d : Answered} {es-after ws-after after : List ℕ} → DoesOpen (answer it) h es ws d es-after ws-after → LeftOpen it (lists_in h (lent h.sorted es ws)) d.answer.count before after
+  done_made : (z : verdict_for it test ≡ Ok tt) {d : Answered} {es-after ws-after after : List ℕ} → DoesOpen (answer it) h es ws d es-after ws-after → LeftOpen it (lists_in h (lent h.sorted es ws)) d.answer.count before after
       → Made it (closed a h es) ws before (record { answer = d.answer; allocator = closed a d.header es-after }) ws-after after
   done_made z {d} {es-after} {ws-after} {after} x left =
-      let s = stands (goes_on it number z) in
+      let s = stands (goes_on it test z) in
       let l = s.lists in
       let keeps : Lawful (answer it l).lists = answer_lawful it l s.opens.lawful in
       let form = same_form it l (open_keeps (length before) c) in
-      let y : checked (closed a h es) ws ≡ 0 = ap (λ (r : FrameAllocator). checked r ws) (sym (zero_is number (goes_on it number z) a h es)) ∙ sym tested ∙ goes_on it number z in
+      let y = passed_number (closed a h es) ws (ap (λ (r : FrameAllocator). verdict r ws) (sym (passed_is test (goes_on it test z) a h es)) ∙ sym tested ∙ goes_on it test z) in
       let same = standing_loads s in
       record {
-        gives = gives_does it (closed a h es) ws (goes_long it number z) y _ ws-after
+        gives = gives_does it (closed a h es) ws (goes_long it test z) y _ ws-after
             (subst (λ (m : Lists). whole.Does (answer it m) ws (record { answer = d.answer; allocator = closed a d.header es-after }) ws-after) (sym same) (record {
               answers = open_answers s.opens (answer it) keeps form x;
               records = close_is (open_after s.opens (answer it) keeps form x) a s.before s.ruled (s.form ∙ sym form);
               words = open_words s.opens (answer it) keeps form x;
             }));
         buffer = record {
-          listed = λ e. (held_going (closed a h es) ws before (long_held (length before) (ap short_buffer (sym e) ∙ goes_long it number z)) y {x = d.answer} {after = after}
+          listed = λ e. (held_going (closed a h es) ws before (long_held (length before) (ap short_buffer (sym e) ∙ goes_long it test z)) y {x = d.answer} {after = after}
               (record {
                 answers = open_answers s.opens (answer it) keeps form x ∙ (λ i. (answer (e i) l).answer) ∙ held_is (length before) l ∙ ap (λ (m : Lists). (held_runs m).answer) (sym same);
                 written = subst (λ (m : Lists). HeldWritten m d.answer.count before after) (open_lists s.opens ∙ sym same) (left.listed e);
@@ -137,12 +144,12 @@ module _ (c : OpenCall) (number : ℕ) (a : FrameAllocator) (h : Header) (es ws 
         };
       }
 
-  pub made_record : {d : Answered} {es-after ws-after after : List ℕ} → MadeOpen it number h es ws before d es-after ws-after after
-      → Made it (record_now number a h es) ws before (record { answer = d.answer; allocator = record_now number a d.header es-after }) ws-after after
-  made_record {d} (refused q e) =
-      made_refused it (record_now number a h es) ws before number (number_for it number) tested refl q _
-      (λ i. record { answer = (e i).answer; allocator = record_now number a (e i).header es })
+  pub made_record : {d : Answered} {es-after ws-after after : List ℕ} → MadeOpen it test h es ws before d es-after ws-after after
+      → Made it (record_now test a h es) ws before (record { answer = d.answer; allocator = record_now test a d.header es-after }) ws-after after
+  made_record {d} (refused r q e) =
+      made_refused it (record_now test a h es) ws before test tested r q _
+      (λ i. record { answer = (e i).answer; allocator = record_now test a (e i).header es })
   made_record {d} {es-after} {ws-after} {after} (done y x left) =
-      let z = goes_on it number y in
-      subst (λ (r : FrameAllocator). Made it r ws before (record { answer = d.answer; allocator = record_now number a d.header es-after }) ws-after after) (sym (zero_is number z a h es))
-      (subst (λ (r : FrameAllocator). Made it (closed a h es) ws before (record { answer = d.answer; allocator = r }) ws-after after) (sym (zero_is number z a d.header es-after)) (done_made y x left))
+      let z = goes_on it test y in
+      subst (λ (r : FrameAllocator). Made it r ws before (record { answer = d.answer; allocator = record_now test a d.header es-after }) ws-after after) (sym (passed_is test z a h es))
+      (subst (λ (r : FrameAllocator). Made it (closed a h es) ws before (record { answer = d.answer; allocator = r }) ws-after after) (sym (passed_is test z a d.header es-after)) (done_made y x left))

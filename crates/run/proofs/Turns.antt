@@ -7,12 +7,12 @@ use lib.ListN.{length, take, drop}
 use Rattle.model.specs.Calls.{Call}
 use Rattle.model.specs.declared.Called.{Called}
 use Rattle.model.specs.declared.FrameAllocator.{FrameAllocator}
-use Rattle.rules.specs.Check.{checked}
+use Rattle.rules.specs.Check.{verdict, Verdict}
 use Rattle.run_calls.specs.Commands.{call_in}
 use Rattle.run_calls.specs.Made.{Made}
 use Rattle.run_calls.specs.declared.RunCall.{RunCall}
 use Rattle.std.specs.Prelude.{Option, Some, None}
-use Rattle.rules.proofs.Lasting.{test_lasts}
+use Rattle.rules.proofs.Lasting.{verdict_lasts}
 use Rattle.run.specs.declared.Ran.{Ran}
 use Rattle.run.specs.declared.RunEnd.{RunEnd}
 use Rattle.run.specs.declared.RunEnd.TheVariants as ends
@@ -21,19 +21,19 @@ use Rattle.model.specs.Words.{answer_words}
 use Rattle.run.proofs.Along.{Along, along_start, along_next, along_end, demanded}
 use Rattle.run.proofs.Left.{decoded_at, left, end_left, left_done, end_done, left_damaged, end_damaged, left_full, end_full, left_next, end_next}
 
-pub record Reached (areas calls : List ℕ) (first : FrameAllocator) (ws₀ answers₀ held₀ : List ℕ) (number made : ℕ) (a : FrameAllocator) (ws answers held : List ℕ) : Type 0 where
+pub record Reached (areas calls : List ℕ) (first : FrameAllocator) (ws₀ answers₀ held₀ : List ℕ) (test : Verdict) (made : ℕ) (a : FrameAllocator) (ws answers held : List ℕ) : Type 0 where
   pub along : Along (calls_made areas calls answers₀ held₀) first ws₀ answers₀ held₀ made (left areas calls (length held₀) (length answers₀ / 5) made) a ws answers held
   pub ends : end_of (length answers₀ / 5) (decoded_in areas calls) ≡ end_left areas calls (length held₀) (length answers₀ / 5) made
-  pub tested : number ≡ checked a ws
+  pub tested : test ≡ verdict a ws
   pub read : 3 * made ≤ length calls
   pub written : 5 * made ≤ length answers₀
   pub words_length : length ws ≡ length ws₀
   pub answers_length : length answers ≡ length answers₀
   pub held_length : length held ≡ length held₀
 
-pub reached_start : (areas calls : List ℕ) (a : FrameAllocator) (ws answers held : List ℕ) (number : ℕ) → number ≡ checked a ws → Reached areas calls a ws answers held number 0 a ws answers held
+pub reached_start : (areas calls : List ℕ) (a : FrameAllocator) (ws answers held : List ℕ) (test : Verdict) → test ≡ verdict a ws → Reached areas calls a ws answers held test 0 a ws answers held
 unfolding left end_left
-reached_start areas calls a ws answers held number e =
+reached_start areas calls a ws answers held test e =
     let all : length answers / 5 ≡ length answers / 5 - 0 = omega arith in
     record {
       along =
@@ -48,7 +48,7 @@ reached_start areas calls a ws answers held number e =
       held_length = refl;
     }
 
-module _ {areas calls : List ℕ} {first : FrameAllocator} {ws₀ answers₀ held₀ : List ℕ} {number made : ℕ} {a : FrameAllocator} {ws answers held : List ℕ} (s : Reached areas calls first ws₀ answers₀ held₀ number made a ws answers held) where
+module _ {areas calls : List ℕ} {first : FrameAllocator} {ws₀ answers₀ held₀ : List ℕ} {test : Verdict} {made : ℕ} {a : FrameAllocator} {ws answers held : List ℕ} (s : Reached areas calls first ws₀ answers₀ held₀ test made a ws answers held) where
   -- no call is left
   stops : left areas calls (length held₀) (length answers₀ / 5) made ≡ [] → (end : RunEnd) → end_left areas calls (length held₀) (length answers₀ / 5) made ≡ end → (r : Ran) → r ≡ ran_to a made end →
       Runs areas calls first ws₀ answers₀ held₀ r ws answers held
@@ -82,14 +82,14 @@ module _ {areas calls : List ℕ} {first : FrameAllocator} {ws₀ answers₀ hel
           let full : length answers₀ / 5 ≤ made = omega arith in
           stops (left_full areas calls (length held₀) (length answers₀ / 5) made h c next_is full) ends.NoRoom (end_full areas calls (length held₀) (length answers₀ / 5) made h c next_is full) r k
 
-      -- the test's number lasts, whatever the call
-      lasts : {made-call : Call} {called : Called} {words-after held_after : List ℕ} → Made made-call a ws held called words-after held_after → number ≡ checked called.allocator words-after
-      lasts {made-call = made-call} m = s.tested ∙ sym (test_lasts made-call a ws) ∙ (λ i. checked (sym m.gives.records i) (sym m.gives.words i))
+      -- the test's test lasts, whatever the call
+      lasts : {made-call : Call} {called : Called} {words-after held_after : List ℕ} → Made made-call a ws held called words-after held_after → test ≡ verdict called.allocator words-after
+      lasts {made-call = made-call} m = s.tested ∙ sym (verdict_lasts made-call a ws) ∙ (λ i. verdict (sym m.gives.records i) (sym m.gives.words i))
 
       pub reached_next : 5 * made + 5 ≤ length answers → {called : Called} {words-after held_after : List ℕ} → Made (call_in areas (length held) c) a ws held called words-after held_after →
           (answers-after : List ℕ) → answers-after ≡ take (5 * made) answers ++ answer_words called.answer ++ drop (5 * made + 5) answers →
           length words-after ≡ length ws → length answers-after ≡ length answers → length held_after ≡ length held →
-          Reached areas calls first ws₀ answers₀ held₀ number (made + 1) called.allocator words-after answers-after held_after
+          Reached areas calls first ws₀ answers₀ held₀ test (made + 1) called.allocator words-after answers-after held_after
       reached_next room {called = called} {words-after = words-after} {held_after = held_after} m answers-after w nw na nh =
           let n = s.answers_length in
           let more : made < length answers₀ / 5 = omega arith in

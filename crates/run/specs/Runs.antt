@@ -8,10 +8,11 @@ use Rattle.model.specs.declared.FrameAllocator.{FrameAllocator}
 use Rattle.areas.specs.Areas.{triples}
 use Rattle.entries.specs.declared.header.Header.{Header}
 use Rattle.packing.specs.Packed.{closed}
+use Rattle.rules.specs.Check.{Verdict}
 use Rattle.run_calls.specs.Commands.{decoded, call_in}
 use Rattle.run_calls.specs.Made.{Left}
 use Rattle.run_calls.specs.declared.RunCall.{RunCall}
-use Rattle.std.specs.Prelude.{Option, Some, None}
+use Rattle.std.specs.Prelude.{Option, Some, None, Ok, Err}
 use Rattle.run.specs.declared.Ending.{Ending}
 use Rattle.run.specs.declared.Ran.{Ran}
 use Rattle.run.specs.declared.RunEnd.{RunEnd}
@@ -50,9 +51,9 @@ ran_to a n e = ran_with (record { made = n; end = e }) a
 -- ---- the record of a run
 
 -- the record as the calls made so far left it: closed from what stands open; a record that the test refuses stays as it was
-unfoldable pub record_now : (number : ℕ) → FrameAllocator → Header → (slots : List ℕ) → FrameAllocator
-record_now zero a h slots = closed a h slots
-record_now (suc n) a h slots = a
+unfoldable pub record_now : Verdict → FrameAllocator → Header → (slots : List ℕ) → FrameAllocator
+record_now (Ok u) a h slots = closed a h slots
+record_now (Err r) a h slots = a
 
 -- ---- what they leave
 

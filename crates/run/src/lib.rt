@@ -1,14 +1,14 @@
 // A list of calls of any length, run from a record and its workspace: docs/RUN.md. The rules are tested once; what the calls give is what
-// they give where each is tested by itself (`test_lasts`, rules/proofs/Lasting).
+// they give where each is tested by itself (`verdict_lasts`, rules/proofs/Lasting).
 #![tactic(auto)]
 
-ghost use Rattle.std.specs.Prelude.{◌≡◌, ◌&&◌, ◌++◌, ◌+◌, ◌≤◌, length, take, drop};
+ghost use Rattle.std.specs.Prelude.{◌≡◌, Ok, ◌&&◌, ◌++◌, ◌+◌, ◌≤◌, length, take, drop};
 ghost use Rattle.packing.specs.Packed.{Closable};
 ghost use Rattle.run.specs.Runs.{record_now, ran_with, Runs};
 ghost use Rattle.model.specs.Words.{answer_words};
 
 use entries::{Answered, Header};
-use model::{Answer, FrameAllocator};
+use model::{Answer, FrameAllocator, Refusal};
 use run_calls::RunCall;
 
 // Why a run ended.
@@ -49,7 +49,7 @@ pub fn run(
 {
     let mut slots = [0u64; 256];
     let opened = rules::open(a, words, &mut slots);
-    let number = opened.number;
+    let tested = opened.tested;
     // The record as it was opened last: its lengths and its slots may be old ones.
     let mut allocator = a;
     let mut h = opened.header;
@@ -58,22 +58,22 @@ pub fn run(
         let decoded = run_calls::decode(areas.len(), calls[i], calls[i + 1], calls[i + 2]);
         let Some(command) = decoded else {
             let end = RunEnd::Damaged;
-            return ended(number, allocator, h, &slots, Ending { made, end });
+            return ended(tested, allocator, h, &slots, Ending { made, end });
         };
         let at = 5 * made;
         if answers.len() - at < 5 {
             let end = RunEnd::NoRoom;
-            return ended(number, allocator, h, &slots, Ending { made, end });
+            return ended(tested, allocator, h, &slots, Ending { made, end });
         }
         match command {
             RunCall::Keep(call) => {
-                let done = run_calls::make_open(number, h, &mut slots, words, call, held);
+                let done = run_calls::make_open(tested, h, &mut slots, words, call, held);
                 put_answer(answers, at, done.answer);
                 h = done.header;
             }
             RunCall::Change(call) => {
-                let before = record_now(number, allocator, h, &slots);
-                let called = run_calls::change_form(before, words, number, call, areas);
+                let before = record_now(tested, allocator, h, &slots);
+                let called = run_calls::change_form(before, words, tested, call, areas);
                 put_answer(answers, at, called.answer);
                 allocator = called.allocator;
                 h = packing::take_apart(allocator, &mut slots);
@@ -82,15 +82,20 @@ pub fn run(
     }
     let made = calls.len() / 3;
     let end = RunEnd::Done;
-    ended(number, allocator, h, &slots, Ending { made, end })
+    ended(tested, allocator, h, &slots, Ending { made, end })
 }
 
 // The record as the calls left it.
-fn record_now(number: u64, a: FrameAllocator, h: Header, slots: &[u64]) -> FrameAllocator
-    requires { number ≡ 0 → Closable (a.sorted && h.sorted) slots.now }
-    ensures { result ≡ record_now number a h slots.now }
+fn record_now(
+    tested: Result<(), Refusal>,
+    a: FrameAllocator,
+    h: Header,
+    slots: &[u64],
+) -> FrameAllocator
+    requires { tested ≡ Ok tt → Closable (a.sorted && h.sorted) slots.now }
+    ensures { result ≡ record_now tested a h slots.now }
 {
-    if number != 0 {
+    if tested.is_err() {
         return a;
     }
     let done = Answered {
@@ -101,11 +106,17 @@ fn record_now(number: u64, a: FrameAllocator, h: Header, slots: &[u64]) -> Frame
     closed.allocator
 }
 
-fn ended(number: u64, a: FrameAllocator, h: Header, slots: &[u64], ending: Ending) -> Ran
-    requires { number ≡ 0 → Closable (a.sorted && h.sorted) slots.now }
-    ensures { result ≡ ran_with ending (record_now number a h slots.now) }
+fn ended(
+    tested: Result<(), Refusal>,
+    a: FrameAllocator,
+    h: Header,
+    slots: &[u64],
+    ending: Ending,
+) -> Ran
+    requires { tested ≡ Ok tt → Closable (a.sorted && h.sorted) slots.now }
+    ensures { result ≡ ran_with ending (record_now tested a h slots.now) }
 {
-    let allocator = record_now(number, a, h, slots);
+    let allocator = record_now(tested, a, h, slots);
     Ran { ending, allocator }
 }
 

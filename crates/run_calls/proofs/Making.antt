@@ -1,4 +1,4 @@
--- One call, made by the number of the test.
+-- One call, made by the verdict of the test.
 use Prim.Native.Nat.{ℕ, ◌+◌, ◌*◌, ◌-◌, ◌≤◌, ◌<◌}
 use native.Mathlib.Omega.{arith}
 use mathlib.Core.Path.{◌≡◌, refl, sym, ap, subst, ◌∙◌}
@@ -6,7 +6,7 @@ use mathlib.Core.Bool.{Bool, true, false}
 use mathlib.Core.List.{List}
 use lib.ListN.{length, take, drop}
 use borrow.Author.Tests.{leb-true, lt-ltb, le-ltb, ltb-false}
-use Rattle.std.specs.Prelude.{if◌then◌else◌}
+use Rattle.std.specs.Prelude.{if◌then◌else◌, Ok, Err}
 use Rattle.memory_structs.specs.Range.{above_top}
 use Rattle.memory_structs.proofs.Bools.{if_cases}
 use Rattle.model.specs.Lists.{Lists}
@@ -18,10 +18,14 @@ use Rattle.model.specs.declared.Called.{Called}
 use Rattle.model.specs.declared.Kind.{Kind}
 use Rattle.model.specs.declared.Kind.TheVariants.{General, Reserved}
 use Rattle.model.specs.declared.FrameAllocator.{FrameAllocator}
+use Rattle.model.specs.declared.refusals.Refusal.{Refusal}
+use Rattle.model.specs.declared.refusals.Refusal.TheVariants.{TooFewWords}
+use Rattle.model.specs.Refusals.{number, refused_answer}
 use Rattle.memory_structs.specs.declared.range.FrameRange.{FrameRange}
 use Rattle.model.proofs.Each.{changes_form}
-use Rattle.rules.specs.Check.{checked, refused_with}
+use Rattle.rules.specs.Check.{checked, verdict, Verdict, refused_with}
 use Rattle.rules.proofs.Numbers.{short_call, gives_refused}
+use Rattle.rules.proofs.Refusals.{numbered, answers_number}
 use Rattle.rules.specs.Check as rules
 use Rattle.rules.proofs.Going.{gives_does}
 use Rattle.areas.specs.Boots.{boot_call_of}
@@ -44,7 +48,7 @@ use Rattle.run_calls.specs.declared.FormCall.TheVariants.{Boot, Sort}
 use Rattle.run_calls.specs.declared.OpenCall.{OpenCall}
 use Rattle.run_calls.specs.declared.OpenCall.TheVariants.{Allocate, Return, KindOf, FreeTotal, HeldList}
 use Rattle.run_calls.specs.Commands.{are_listed, Listed, areas_at, form_call, open_call}
-use Rattle.run_calls.specs.Made.{number_for, Made, LeftOpen, MadeOpen, done}
+use Rattle.run_calls.specs.Made.{verdict_for, Made, LeftOpen, MadeOpen, done}
 
 -- ---- a boot's areas: the part of the list from one word to another
 
@@ -76,72 +80,73 @@ form_other areas (Boot unit.Frames first count) n e = let w : ◌≡◌ {A = ℕ
 form_other areas (Boot unit.Bytes first count) n e = let w : ◌≡◌ {A = ℕ} 0 1 = cc in omega arith
 form_other areas Sort n e = let w : ◌≡◌ {A = ℕ} 0 1 = cc in omega arith
 
--- ---- the number that decides
+-- ---- the verdict that decides
 
 -- only a held list has a buffer
-pub other_number : (buffer n : ℕ) (c : OpenCall) → (c ≡ HeldList → ⊥) → n ≡ number_for (open_call buffer c) n
-unfolding number_for open_call short_buffer
-other_number buffer n (Allocate (Frames m)) q = refl
-other_number buffer n (Allocate (Bytes b)) q = refl
-other_number buffer n (Allocate (FramesAt f m)) q = refl
-other_number buffer n (Allocate (BytesAt x b)) q = refl
-other_number buffer n (Allocate (GeneralFramesAt f m)) q = refl
-other_number buffer n (Return r) q = refl
-other_number buffer n (KindOf r) q = refl
-other_number buffer n (FreeTotal k) q = refl
-other_number buffer n HeldList q = absurd (q refl)
+pub other_verdict : (buffer : ℕ) (t : Verdict) (c : OpenCall) → (c ≡ HeldList → ⊥) → t ≡ verdict_for (open_call buffer c) t
+unfolding verdict_for open_call short_buffer
+other_verdict buffer t (Allocate (Frames m)) q = refl
+other_verdict buffer t (Allocate (Bytes b)) q = refl
+other_verdict buffer t (Allocate (FramesAt f m)) q = refl
+other_verdict buffer t (Allocate (BytesAt x b)) q = refl
+other_verdict buffer t (Allocate (GeneralFramesAt f m)) q = refl
+other_verdict buffer t (Return r) q = refl
+other_verdict buffer t (KindOf r) q = refl
+other_verdict buffer t (FreeTotal k) q = refl
+other_verdict buffer t HeldList q = absurd (q refl)
 
-module _ (buffer n : ℕ) (c : OpenCall) (e : c ≡ HeldList) where
-  pub short_number : buffer < 2048 → 3 ≡ number_for (open_call buffer c) n
-  unfolding number_for open_call short_buffer
-  short_number h = rw (e, lt-ltb buffer 2048 h)
+module _ (buffer : ℕ) (t : Verdict) (c : OpenCall) (e : c ≡ HeldList) where
+  pub short_verdict : buffer < 2048 → Err TooFewWords ≡ verdict_for (open_call buffer c) t
+  unfolding verdict_for open_call short_buffer
+  short_verdict h = rw (e, lt-ltb buffer 2048 h)
 
-  pub long_number : 2048 ≤ buffer → n ≡ number_for (open_call buffer c) n
-  unfolding number_for open_call short_buffer
-  long_number h = rw (e, le-ltb buffer 2048 h)
+  pub long_verdict : 2048 ≤ buffer → t ≡ verdict_for (open_call buffer c) t
+  unfolding verdict_for open_call short_buffer
+  long_verdict h = rw (e, le-ltb buffer 2048 h)
 
--- 0 lets the call go on: no short buffer, and the rules are kept
-module _ (c : Call) (n : ℕ) (z : number_for c n ≡ 0) where
-  goes : (t : Bool) → short_buffer c ≡ t → ◌≡◌ {A = ℕ} (if t then 3 else n) 0 → (short_buffer c ≡ false) × (n ≡ 0)
-  goes true e h = absurd (omega arith)
+-- a call that goes on: no short buffer, and the rules are kept
+module _ (c : Call) (t : Verdict) (z : verdict_for c t ≡ Ok tt) where
+  goes : (b : Bool) → short_buffer c ≡ b → ◌≡◌ {A = Verdict} (if b then Err TooFewWords else t) (Ok tt) → (short_buffer c ≡ false) × (t ≡ Ok tt)
+  goes true e h = let w : ◌≡◌ {A = ℕ} 0 1 = cc in absurd (omega arith)
   goes false e h = (e, h)
 
   pub goes_long : short_buffer c ≡ false
-  unfolding number_for
+  unfolding verdict_for
   goes_long = (goes (short_buffer c) refl z).0
 
-  pub goes_on : n ≡ 0
-  unfolding number_for
+  pub goes_on : t ≡ Ok tt
+  unfolding verdict_for
   goes_on = (goes (short_buffer c) refl z).1
 
--- another number refuses the call
-gives_number : (c : Call) (a : FrameAllocator) (ws : List ℕ) (n : ℕ) → n ≡ checked a ws → (number_for c n ≡ 0 → ⊥) → Gives c a ws (refused_with (number_for c n) a) ws
-unfolding number_for unchanged
-gives_number c a ws n p q = go (short_buffer c) refl q
+-- and one that is refused
+gives_refusal : (c : Call) (a : FrameAllocator) (ws : List ℕ) (t : Verdict) → t ≡ verdict a ws → (r : Refusal) → verdict_for c t ≡ Err r → Gives c a ws (refused_with r a) ws
+unfolding verdict_for unchanged
+gives_refusal c a ws t p r q = go (short_buffer c) refl q
   where
-    go : (t : Bool) → short_buffer c ≡ t → (◌≡◌ {A = ℕ} (if t then 3 else n) 0 → ⊥) → Gives c a ws (refused_with (if t then 3 else n) a) ws
+    go : (b : Bool) → short_buffer c ≡ b → ◌≡◌ {A = Verdict} (if b then Err TooFewWords else t) (Err r) → Gives c a ws (refused_with r a) ws
     go true e q =
         let k = short_call c a ws e in
-        record {
+        let three : TooFewWords ≡ r = cc in
+        subst (λ (x : Refusal). Gives c a ws (refused_with x a) ws) three (record {
           answers = sym (ap (λ (o : Outcome). o.answer) k);
           records = sym (ap (λ (o : Outcome). o.allocator) k);
           words = sym (ap (λ (o : Outcome). o.words) k);
-        }
-    go false e q = gives_refused c a ws e n p q
+        })
+    go false e q = gives_refused c a ws e r (sym p ∙ q)
 
 -- ---- the call made
 
 module _ (c : Call) (a : FrameAllocator) (ws before : List ℕ) where
   -- a refusal keeps the buffer, and so does every call but a held list
-  pub made_refused : (n m : ℕ) → n ≡ checked a ws → m ≡ number_for c n → (m ≡ 0 → ⊥) → (called : Called) → called ≡ refused_with m a → Made c a ws before called ws before
-  made_refused n m p e q called r =
-      let g : Gives c a ws (refused_with m a) ws = subst (λ (k : ℕ). Gives c a ws (refused_with k a) ws) (sym e) (gives_number c a ws n p (λ z. q (e ∙ z))) in
-      let number : (call c a ws).answer.number ≡ m = sym (ap (λ (x : Answer). x.number) g.answers) in
+  pub made_refused : (t : Verdict) → t ≡ verdict a ws → (r : Refusal) → verdict_for c t ≡ Err r → (called : Called) → called ≡ refused_with r a → Made c a ws before called ws before
+  made_refused t p r q called e =
+      let g : Gives c a ws (refused_with r a) ws = gives_refusal c a ws t p r q in
+      let same : (call c a ws).answer.number ≡ number r = sym (ap (λ (x : Answer). x.number) g.answers) ∙ answers_number r in
       record {
-        gives = subst (λ (x : Called). Gives c a ws x ws) (sym r) g;
+        gives = subst (λ (x : Called). Gives c a ws x ws) (sym e) g;
         buffer = record {
           listed = λ h. record {
-            accepted = λ z. absurd (q (sym number ∙ ap (λ (d : Call). (call d a ws).answer.number) h ∙ z));
+            accepted = λ z. absurd (numbered r (sym same ∙ ap (λ (d : Call). (call d a ws).answer.number) h ∙ z));
             otherwise = λ z. refl;
           };
           kept = λ h. refl;
@@ -154,9 +159,9 @@ module _ (c : Call) (a : FrameAllocator) (ws before : List ℕ) where
 
 -- ---- a call on an allocator that stands open
 
-pub made_as : {number : ℕ} {h : Header} {es ws before : List ℕ} {d : Answered} {es-after ws-after after : List ℕ} (n : ℕ) {c known : OpenCall} → c ≡ known →
-    MadeOpen (open_call n known) number h es ws before d es-after ws-after after → MadeOpen (open_call n c) number h es ws before d es-after ws-after after
-made_as {number} {h} {es} {ws} {before} {d} {es-after} {ws-after} {after} n e m = subst (λ (x : OpenCall). MadeOpen (open_call n x) number h es ws before d es-after ws-after after) (sym e) m
+pub made_as : {tested : Verdict} {h : Header} {es ws before : List ℕ} {d : Answered} {es-after ws-after after : List ℕ} (n : ℕ) {c known : OpenCall} → c ≡ known →
+    MadeOpen (open_call n known) tested h es ws before d es-after ws-after after → MadeOpen (open_call n c) tested h es ws before d es-after ws-after after
+made_as {tested} {h} {es} {ws} {before} {d} {es-after} {ws-after} {after} n e m = subst (λ (x : OpenCall). MadeOpen (open_call n x) tested h es ws before d es-after ws-after after) (sym e) m
 
 -- no request and no return is a held list
 pub request_other : (r : Request) (n : ℕ) → asked.call_of r ≡ held_call n → ⊥
@@ -225,39 +230,39 @@ module _ (areas : List ℕ) {c : FormCall} {a : FrameAllocator} {ws after : List
   unfolding form_call answer short_buffer
   sort_gives e z d = form_as e (gives_does sort_call a ws refl z called after d)
 
-module _ (c : OpenCall) (number : ℕ) (before : List ℕ) (z : number_for (open_call (length before) c) number ≡ 0) where
-  known_number : {known : OpenCall} → c ≡ known → number_for (open_call (length before) known) number ≡ 0
-  known_number e = subst (λ (x : OpenCall). number_for (open_call (length before) x) number ≡ 0) e z
+module _ (c : OpenCall) (tested : Verdict) (before : List ℕ) (z : verdict_for (open_call (length before) c) tested ≡ Ok tt) where
+  known_verdict : {known : OpenCall} → c ≡ known → verdict_for (open_call (length before) known) tested ≡ Ok tt
+  known_verdict e = subst (λ (x : OpenCall). verdict_for (open_call (length before) x) tested ≡ Ok tt) e z
 
   module _ {h : Header} {es ws : List ℕ} {d : Answered} where
-    pub request_made : {r : Request} {es-after ws-after : List ℕ} → c ≡ Allocate r → DoesOpen (answer (asked.call_of r)) h es ws d es-after ws-after → MadeOpen (open_call (length before) c) number h es ws before d es-after ws-after before
+    pub request_made : {r : Request} {es-after ws-after : List ℕ} → c ≡ Allocate r → DoesOpen (answer (asked.call_of r)) h es ws d es-after ws-after → MadeOpen (open_call (length before) c) tested h es ws before d es-after ws-after before
     unfolding open_call
-    request_made {r} e x = made_as (length before) e (done (known_number e) x (kept_open _ _ _ before (request_other r (length before))))
+    request_made {r} e x = made_as (length before) e (done (known_verdict e) x (kept_open _ _ _ before (request_other r (length before))))
 
-    pub return_made : {r : FrameRange} {es-after ws-after : List ℕ} → c ≡ Return r → DoesOpen (answer (return_call r)) h es ws d es-after ws-after → MadeOpen (open_call (length before) c) number h es ws before d es-after ws-after before
+    pub return_made : {r : FrameRange} {es-after ws-after : List ℕ} → c ≡ Return r → DoesOpen (answer (return_call r)) h es ws d es-after ws-after → MadeOpen (open_call (length before) c) tested h es ws before d es-after ws-after before
     unfolding open_call
-    return_made e x = made_as (length before) e (done (known_number e) x (kept_open _ _ _ before (λ q. let w : ◌≡◌ {A = ℕ} 0 1 = cc in omega arith)))
+    return_made e x = made_as (length before) e (done (known_verdict e) x (kept_open _ _ _ before (λ q. let w : ◌≡◌ {A = ℕ} 0 1 = cc in omega arith)))
 
     module _ (u : Ruled h (lent h.sorted es ws)) {x : Answer} (p : d ≡ whole.answered_with x h) where
-      pub kind_made : {r : FrameRange} → c ≡ KindOf r → x ≡ (kind_of r (lists_in h (lent h.sorted es ws))).answer → MadeOpen (open_call (length before) c) number h es ws before d es ws before
+      pub kind_made : {r : FrameRange} → c ≡ KindOf r → x ≡ (kind_of r (lists_in h (lent h.sorted es ws))).answer → MadeOpen (open_call (length before) c) tested h es ws before d es ws before
       unfolding open_call answer
-      kind_made {r} e k = made_as (length before) e (done (known_number e) (asks_open (kind_call r) h es ws u (kind_keeps r _) k p) (kept_open _ _ _ before (λ q. let w : ◌≡◌ {A = ℕ} 0 1 = cc in omega arith)))
+      kind_made {r} e k = made_as (length before) e (done (known_verdict e) (asks_open (kind_call r) h es ws u (kind_keeps r _) k p) (kept_open _ _ _ before (λ q. let w : ◌≡◌ {A = ℕ} 0 1 = cc in omega arith)))
 
-      pub total_made : {k : Kind} → c ≡ FreeTotal k → x ≡ (total k (lists_in h (lent h.sorted es ws))).answer → MadeOpen (open_call (length before) c) number h es ws before d es ws before
+      pub total_made : {k : Kind} → c ≡ FreeTotal k → x ≡ (total k (lists_in h (lent h.sorted es ws))).answer → MadeOpen (open_call (length before) c) tested h es ws before d es ws before
       unfolding open_call answer
-      total_made {k} e q = made_as (length before) e (done (known_number e) (asks_open (total_call k) h es ws u (total_keeps k _) q p) (kept_open _ _ _ before (λ q. let w : ◌≡◌ {A = ℕ} 0 1 = cc in omega arith)))
+      total_made {k} e q = made_as (length before) e (done (known_verdict e) (asks_open (total_call k) h es ws u (total_keeps k _) q p) (kept_open _ _ _ before (λ q. let w : ◌≡◌ {A = ℕ} 0 1 = cc in omega arith)))
 
-      pub held_made : {after : List ℕ} → c ≡ HeldList → query.Listed (lists_in h (lent h.sorted es ws)) before x after → MadeOpen (open_call (length before) c) number h es ws before d es ws after
+      pub held_made : {after : List ℕ} → c ≡ HeldList → query.Listed (lists_in h (lent h.sorted es ws)) before x after → MadeOpen (open_call (length before) c) tested h es ws before d es ws after
       unfolding open_call answer
       held_made {after} e t =
-          made_as (length before) e (done (known_number e) (asks_open (held_call (length before)) h es ws u (held_keeps (length before) _) t.answers p) (record {
+          made_as (length before) e (done (known_verdict e) (asks_open (held_call (length before)) h es ws u (held_keeps (length before) _) t.answers p) (record {
             listed = λ q. subst (λ (m : ℕ). HeldWritten (lists_in h (lent h.sorted es ws)) m before after) (sym (ap (λ (y : Answered). y.answer.count) p)) t.written;
             kept = λ q. absurd (q refl);
           }))
 
 -- a held list that goes on has a long buffer
-pub long_number_held : (n : ℕ) (c : OpenCall) (number : ℕ) → c ≡ HeldList → number_for (open_call n c) number ≡ 0 → 2048 ≤ n
+pub long_verdict_held : (n : ℕ) (c : OpenCall) (tested : Verdict) → c ≡ HeldList → verdict_for (open_call n c) tested ≡ Ok tt → 2048 ≤ n
 unfolding open_call
-long_number_held n c number e z =
-    let y : number_for (held_call n) number ≡ 0 = subst (λ (x : OpenCall). number_for (open_call n x) number ≡ 0) e z in
-    long_held n (goes_long (held_call n) number y)
+long_verdict_held n c tested e z =
+    let y : verdict_for (held_call n) tested ≡ Ok tt = subst (λ (x : OpenCall). verdict_for (open_call n x) tested ≡ Ok tt) e z in
+    long_held n (goes_long (held_call n) tested y)

@@ -1,21 +1,21 @@
 // One call as three words, read and made: what the call is, and two numbers (docs/RUN.md). A list of them is run by `run`.
 #![tactic(auto)]
 
-ghost use Rattle.std.specs.Prelude.{◌≡◌, true, length};
+ghost use Rattle.std.specs.Prelude.{◌≡◌, true, length, Ok};
 ghost use Rattle.model.specs.Calls.{Gives};
-ghost use Rattle.rules.specs.Check.{checked, Ruled};
+ghost use Rattle.rules.specs.Check.{verdict, Ruled};
 ghost use Rattle.areas.specs.Boots.{boot_call_of};
 ghost use Rattle.entries.specs.Whole as whole;
 ghost use Rattle.packing.specs.Open.{lent};
 ghost use Rattle.run_calls.specs.Commands as spec;
 ghost use Rattle.run_calls.specs.Commands.{Listed, areas_at, form_call, open_call};
-ghost use Rattle.run_calls.specs.Made.{number_for, MadeOpen};
+ghost use Rattle.run_calls.specs.Made.{verdict_for, MadeOpen};
 
 use areas::AreaUnit;
 use calls::Operation;
 use entries::{Answered, Header};
 use memory_structs::FrameRange;
-use model::{Answer, Called, FrameAllocator, Kind};
+use model::{Answer, Called, FrameAllocator, Kind, Refusal};
 use requests::Request;
 
 // A call of a run: every call of demand 3 is one.
@@ -104,21 +104,21 @@ fn are_listed(areas_len: usize, first: u64, count: u64) -> bool
     false
 }
 
-// Makes a call that may change the form, on the record. The number is the test's, made before; where it is 0 the call goes on, and keeps
-// the rules (`test_lasts`, rules/proofs/Lasting).
+// Makes a call that may change the form, on the record. The record was tested before; where the test lets it go on, it keeps the rules
+// (`verdict_lasts`, rules/proofs/Lasting).
 pub fn change_form(
     a: FrameAllocator,
     words: &mut [u64],
-    number: u64,
+    tested: Result<(), Refusal>,
     call: FormCall,
     areas: &[u64],
 ) -> Called
-    requires number_value { number ≡ checked a words.old }
+    requires tested_value { tested ≡ verdict a words.old }
     requires listed { Listed (length areas.now) call }
     ensures { Gives (form_call areas.now call) a words.old result words.new }
 {
-    if number != 0 {
-        return rules::refused(a, number);
+    if let Err(refusal) = tested {
+        return rules::refused(a, refusal);
     }
     match call {
         FormCall::Boot { unit, first, count } => {
@@ -130,22 +130,21 @@ pub fn change_form(
     }
 }
 
-// Makes a call that keeps the form, on the allocator as it stands open; by the test's number, or 3 for a held list whose buffer is too
-// short: 3 comes before 11.
+// Makes a call that keeps the form, on the allocator as it stands open; refused by the test, or by 3 for a held list whose buffer
+// is too short: 3 comes before 11.
 pub fn make_open(
-    number: u64,
+    tested: Result<(), Refusal>,
     h: Header,
     slots: &mut [u64],
     words: &mut [u64],
     call: OpenCall,
     held: &mut [u64],
 ) -> Answered
-    requires { number ≡ 0 → whole.Ruled h (lent h.sorted slots.old words.old) }
-    ensures { MadeOpen (open_call (length held.old) call) number h slots.old words.old held.old result slots.new words.new held.new }
+    requires { tested ≡ Ok tt → whole.Ruled h (lent h.sorted slots.old words.old) }
+    ensures { MadeOpen (open_call (length held.old) call) tested h slots.old words.old held.old result slots.new words.new held.new }
 {
-    let refusal = number_for(call, number, held.len());
-    if refusal != 0 {
-        return answered(h, rules::without_frames(refusal, 0));
+    if let Err(refusal) = check_call(call, tested, held.len()) {
+        return answered(h, Answer::from(refusal));
     }
     match call {
         OpenCall::Allocate(request) => {
@@ -158,17 +157,17 @@ pub fn make_open(
     }
 }
 
-// The test's number, or 3 for a held list whose buffer is too short.
-fn number_for(call: OpenCall, number: u64, buffer_len: usize) -> u64
-    ensures { result ≡ number_for (open_call buffer_len call) number }
+// What the test says, or 3 for a held list whose buffer is too short.
+fn check_call(call: OpenCall, tested: Result<(), Refusal>, buffer_len: usize) -> Result<(), Refusal>
+    ensures { result ≡ verdict_for (open_call buffer_len call) tested }
 {
     let OpenCall::HeldList = call else {
-        return number;
+        return tested;
     };
     if buffer_len < 2048 {
-        return 3;
+        return Err(Refusal::TooFewWords);
     }
-    number
+    tested
 }
 
 // A question leaves the header as it was.

@@ -1,6 +1,4 @@
 -- `boot_ruled`: the lists filled, or the number of what refuses it.
-use Rattle.std.proofs.Common.{sym, ◌∙◌}
-use Rattle.boot.proofs.Numbers.{numbered}
 use Rattle.boot.proofs.Given.{gives_filled, gives_refusal}
 use Rattle.boot.proofs.boot_ruled.Goals as goal
 
@@ -10,4 +8,4 @@ returns-in-Ok g c =
 
 pub returns-in-Err : goal.returns-in-Err
 returns-in-Err g c =
-    rw c.refused.ensures (gives_refusal _ _ (g.met.M.BootMap.is_boot c.args.map.now) _ _ c.requires _ (c.number.ensures ∙ c.in-Err.ensures.number c.args.words.now) (λ z. numbered c.in-Err.refusal (sym c.number.ensures ∙ z)))
+    rw c.refused.ensures (gives_refusal _ _ (g.met.M.BootMap.is_boot c.args.map.now) _ _ c.requires c.in-Err.refusal (c.in-Err.ensures.number c.args.words.now))

@@ -1,7 +1,8 @@
 -- `filled`: number by number, in their order.
 use Rattle.std.proofs.Common.{sym, ◌∙◌}
 use borrow.Author.Tests.{not-true, not-false}
-use Rattle.boot.proofs.Numbers.{passed_on, numbered, first_refusals, may_carve, may_join, seven, pieces_whole, joined_whole, joined_apart, six, fills, filled}
+use Rattle.boot.proofs.Numbers.{passed_on, first_refusals, may_carve, may_join, seven, pieces_whole, joined_whole, joined_apart, six, fills, filled}
+use Rattle.rules.proofs.Refusals.{numbered}
 use Rattle.boot.proofs.Given.{ten, after_10}
 use Rattle.boot.proofs.filled.Goals as goal
 

@@ -3,31 +3,31 @@ use mathlib.Core.Path.{◌≡◌, sym, subst, ◌∙◌}
 use Rattle.model.specs.Calls.{Gives}
 use Rattle.model.specs.declared.Called.{Called}
 use Rattle.rules.specs.Check.{checked}
-use Rattle.rules.proofs.Numbers.{gives_refused}
+use Rattle.rules.proofs.Numbers.{gives_refused, passed_number}
 use Rattle.rules.proofs.OpenAs.{call_may, call_closes, call_gives}
 use Rattle.calls.specs.Operations.{call_of}
 use Rattle.calls.proofs.Kept.{never_short, keeps_form}
 use Rattle.calls.proofs.perform.Goals as goal
 
-pub returns-then-opened-ne0 : goal.returns-then-opened-ne0
-returns-then-opened-ne0 c = let a = c.args in
+pub returns-in-Err : goal.returns-in-Err
+returns-in-Err c = let a = c.args in
     subst (λ (x : Called). Gives (call_of a.operation) a.a a.words.now x a.words.now) (sym c.refused.ensures)
-    (gives_refused (call_of a.operation) a.a a.words.now (never_short a.operation) _ c.open-opened.ensures.number c.if-opened-ne0.true)
+    (gives_refused (call_of a.operation) a.a a.words.now (never_short a.operation) c.in-Err.refusal (sym c.open-opened.ensures.tested ∙ c.in-Err.is))
 
 pub operate-done-requires : goal.operate-done-requires
 operate-done-requires c =
-    let passed : let a = c.args in checked a.a a.words.now ≡ 0 = sym c.open-opened.ensures.number ∙ c.if-opened-ne0.false in
+    let passed : let a = c.args in checked a.a a.words.now ≡ 0 = passed_number _ _ (sym c.open-opened.ensures.tested ∙ c.in_default.is) in
     let a = c.args in
     call_may (call_of a.operation) a.a a.words.now (never_short a.operation) (keeps_form a.operation _) passed c.open-opened.ensures
 
 pub close-requires : goal.close-requires
 close-requires c =
-    let passed : let a = c.args in checked a.a a.words.now ≡ 0 = sym c.open-opened.ensures.number ∙ c.if-opened-ne0.false in
+    let passed : let a = c.args in checked a.a a.words.now ≡ 0 = passed_number _ _ (sym c.open-opened.ensures.tested ∙ c.in_default.is) in
     let a = c.args in
     call_closes (call_of a.operation) a.a a.words.now (never_short a.operation) (keeps_form a.operation _) passed c.open-opened.ensures c.operate-done.ensures
 
 pub returns : goal.returns
 returns c =
-    let passed : let a = c.args in checked a.a a.words.now ≡ 0 = sym c.open-opened.ensures.number ∙ c.if-opened-ne0.false in
+    let passed : let a = c.args in checked a.a a.words.now ≡ 0 = passed_number _ _ (sym c.open-opened.ensures.tested ∙ c.in_default.is) in
     let a = c.args in
     call_gives (call_of a.operation) a.a a.words.now (never_short a.operation) (keeps_form a.operation _) passed c.open-opened.ensures c.operate-done.ensures _ c.close.ensures

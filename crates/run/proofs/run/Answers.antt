@@ -35,7 +35,7 @@ record_now-before-requires c = going_closes c.loop-made.invariant
 
 pub change_form-called-requires : goal.change_form-called-requires
 change_form-called-requires c = record {
-  number_value = going_tested c.loop-made.invariant _ c.record_now-before.ensures;
+  tested_value = going_tested c.loop-made.invariant _ c.record_now-before.ensures;
   listed = form_in_list _ _ _ _ _ (ap Some (sym c.in-Change.is) ∙ sym c.in-Some.is ∙ c.decode-decoded.ensures);
 }
 
@@ -59,4 +59,4 @@ ended-requires-2 c = going_closes c.loop-made.invariant
 pub returns : goal.returns
 returns c =
     let all : length c.args.calls.now / 3 ≡ c.loop-made.made = omega arith in
-    stops_done c.loop-made.invariant.reached (omega arith) _ (c.ended-2.ensures ∙ ap (λ (made : ℕ). ran_to (record_now c.open-opened.result.number c.loop-made.allocator c.loop-made.h c.loop-made.slots) made Done) all)
+    stops_done c.loop-made.invariant.reached (omega arith) _ (c.ended-2.ensures ∙ ap (λ (made : ℕ). ran_to (record_now c.open-opened.result.tested c.loop-made.allocator c.loop-made.h c.loop-made.slots) made Done) all)

@@ -4,4 +4,4 @@ use Rattle.run.proofs.run.Given as goal
 
 abbrev pub invariant-loop-made : goal.invariant-loop-made
 invariant-loop-made l =
-    Going l.areas l.calls l.initial.allocator l.initial.words l.initial.answers l.initial.held l.number l.made l.allocator l.h l.slots l.words l.answers l.held
+    Going l.areas l.calls l.initial.allocator l.initial.words l.initial.answers l.initial.held l.tested l.made l.allocator l.h l.slots l.words l.answers l.held
