@@ -1,5 +1,5 @@
 -- The lists of a record that keeps the rules, taken apart: they may be listed, and they are those of the record.
-use Prim.Native.Nat.{ℕ, ◌+◌, ◌≤◌}
+use Prim.Native.Nat.{ℕ}
 use mathlib.Core.Path.{◌≡◌, sym, ap, subst, ◌∙◌}
 use mathlib.Core.List.{List}
 use Rattle.model.specs.Lists.{Lists}
@@ -9,12 +9,10 @@ use Rattle.rules.specs.Check as rules
 use Rattle.rules.proofs.OpenAs.{OpenAs, apart_as, open_ruled, open_lists}
 use Rattle.entries.specs.Whole.{lists_in, Ruled}
 use Rattle.entries.specs.declared.header.Header.{Header}
-use Rattle.entries.specs.declared.header.WhichList.{WhichList}
 use Rattle.packing.specs.Open.{lent}
 use Rattle.packing.specs.Packed.{Apart}
 use Rattle.bench_texts.specs.Texts.{Puts}
-use Rattle.bench_lists.specs.ListLines.{line_of, line_room}
-use Rattle.bench_lists.proofs.Going.{line_within}
+use Rattle.bench_answers.specs.Answered.{four_lines}
 
 module _ (a : FrameAllocator) (ws : List ℕ) (u : rules.Ruled a ws) {h : Header} {es : List ℕ} (p : Apart a h es) {ls : List ℕ} (e : ls ≡ lent h.sorted es ws) where
   stands : OpenAs (load a ws) h es ws
@@ -26,8 +24,5 @@ module _ (a : FrameAllocator) (ws : List ℕ) (u : rules.Ruled a ws) {h : Header
   listed_is : lists_in h ls ≡ load a ws
   listed_is = ap (lists_in h) e ∙ open_lists stands
 
-  pub listed_line : (w : WhichList) {before after : List ℕ} {at next : ℕ} → Puts (line_of w (lists_in h ls)) before at after next → Puts (line_of w (load a ws)) before at after next
-  listed_line w {before} {after} {at} {next} x = subst (λ (l : Lists). Puts (line_of w l) before at after next) listed_is x
-
-  pub listed_within : (w : WhichList) {before after : List ℕ} {at next : ℕ} → Puts (line_of w (lists_in h ls)) before at after next → next ≤ at + line_room
-  listed_within w x = line_within (lists_in h ls) w listed_ruled.keeps x
+  pub listed_text : {before after : List ℕ} {at next : ℕ} → Puts (four_lines (lists_in h ls)) before at after next → Puts (four_lines (load a ws)) before at after next
+  listed_text {before} {after} {at} {next} x = subst (λ (l : Lists). Puts (four_lines l) before at after next) listed_is x

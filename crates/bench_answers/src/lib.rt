@@ -7,14 +7,16 @@ ghost use Rattle.model.specs.Calls.{boot_call};
 ghost use Rattle.model.specs.Store.{load};
 ghost use Rattle.bench_areas.specs.Areas.{Room, collected};
 ghost use Rattle.bench_lines.specs.Commands.{command_of};
-ghost use Rattle.bench_texts.specs.Texts.{answer_line};
+ghost use Rattle.entries.specs.Whole as entries;
+ghost use Rattle.entries.specs.Whole.{lists_in};
+ghost use Rattle.bench_texts.specs.Texts.{Puts, answer_line};
 ghost use Rattle.bench_answers.specs.Answered.{answered, calling, four_lines};
 ghost use Rattle.bench_answers.specs.Replies.{Ready, Replies, Gathers, Says, reply_room, first_bench, state_of, with_record};
 
 use bench_areas::AreaCounts;
 use bench_lines::Command;
 use bench_lists::put_list;
-use entries::WhichList;
+use entries::{Header, WhichList};
 use memory_structs::FrameRange;
 use model::{Area, Called, FrameAllocator, Kind};
 use requests::Request;
@@ -113,7 +115,6 @@ impl Bench {
         Reply { bench, len }
     }
 
-    // "Prints the four lists", each from where the last ended: the clause joins four lines, which a loop over the lists says no plainer.
     fn list(self, out: &mut [u8], words: &[u64]) -> Reply
         requires ruled { Ruled self.allocator words.now }
         requires reply_room_in_bounds { reply_room ≤ length out.old }
@@ -122,22 +123,7 @@ impl Bench {
         let mut slots = [0u64; 256];
         let h = packing::take_apart(self.allocator, &mut slots);
         let lists = packing::entries_of(h, &slots, words);
-        let reserved_free_at = put_list(out, 0, h, lists, WhichList::GeneralFree);
-        let general_regions_at = put_list(out, reserved_free_at, h, lists, WhichList::ReservedFree);
-        let reserved_regions_at = put_list(
-            out,
-            general_regions_at,
-            h,
-            lists,
-            WhichList::GeneralRegions,
-        );
-        let len = put_list(
-            out,
-            reserved_regions_at,
-            h,
-            lists,
-            WhichList::ReservedRegions,
-        );
+        let len = put_lists(out, h, lists);
         Reply { bench: self, len }
     }
 
@@ -148,4 +134,28 @@ impl Bench {
         let len = bench_texts::put_text(out, 0, text);
         Reply { bench: self, len }
     }
+}
+
+// "`(list)` prints the four lists", each from where the last ended. Four calls: the clause joins four lines, which a loop says no plainer.
+fn put_lists(out: &mut [u8], h: Header, lists: &[u64]) -> usize
+    requires ruled { entries.Ruled h lists.now }
+    requires reply_room_in_bounds { reply_room ≤ length out.old }
+    ensures { Puts (four_lines (lists_in h lists.now)) out.old 0 out.new result }
+{
+    let reserved_free_at = put_list(out, 0, h, lists, WhichList::GeneralFree);
+    let general_regions_at = put_list(out, reserved_free_at, h, lists, WhichList::ReservedFree);
+    let reserved_regions_at = put_list(
+        out,
+        general_regions_at,
+        h,
+        lists,
+        WhichList::GeneralRegions,
+    );
+    put_list(
+        out,
+        reserved_regions_at,
+        h,
+        lists,
+        WhichList::ReservedRegions,
+    )
 }

@@ -1,10 +1,10 @@
 -- Entries put one after another, as a loop puts them.
 use native.Mathlib.Omega.{arith}
-use Prim.Native.Nat.{ℕ, zero, suc, ◌+◌, ◌*◌, ◌≤◌, ◌<◌}
+use Prim.Native.Nat.{ℕ, zero, suc, ◌+◌, ◌-◌, ◌*◌, ◌≤◌, ◌<◌}
 use mathlib.Core.Path.{◌≡◌, refl, sym, ap, subst, ◌∙◌}
 use mathlib.Core.Bool.{Bool, true, false, true≢false}
 use mathlib.Core.List.{List, [], ◌∷◌, ◌++◌}
-use lib.ListN.{length, drop, length-append}
+use lib.ListN.{length, take, drop, length-append}
 use borrow.Author.Tests.{ltb-true}
 use Rattle.memory_structs.specs.Range.{is_empty}
 use Rattle.memory_structs.specs.declared.range.FrameRange.{FrameRange}
@@ -12,10 +12,12 @@ use Rattle.model.specs.Lists.{Lists, Slot, unused, used, entries, range_at, boun
 use Rattle.model.specs.Rules.{rules}
 use Rattle.model.proofs.Lawful.{AllSound}
 use Rattle.model.proofs.Ruled.{tidy_is}
-use Rattle.entries.specs.Part.{IsPart, slots_in}
-use Rattle.entries.specs.Whole.{slots_at}
+use Rattle.entries.specs.Part.{IsPart, slots_in, slots_of, width}
+use Rattle.entries.specs.Whole.{slots_at, lists_in, part_in, part_of, Ruled}
 use Rattle.entries.proofs.Forms.{sorted_length, early_length}
-use Rattle.entries.proofs.Whole.{tidy_list}
+use Rattle.entries.proofs.Whole.{tidy_list, lent_slots}
+use Rattle.entries.specs.declared.header.Header.{Header}
+use Rattle.entries.specs.declared.Part.{Part}
 use Rattle.entries.specs.declared.header.WhichList.{WhichList}
 use Rattle.entries.specs.declared.header.WhichList.TheVariants.{GeneralFree, ReservedFree, GeneralRegions, ReservedRegions}
 use Rattle.bench_texts.specs.Texts.{Puts, line_end_text}
@@ -116,3 +118,12 @@ line_within l w ruled p =
     let count : length rs ≤ 512 = few l w ruled in
     let named : length (list_line w rs) ≡ length (name_text w) + (length (entries_text rs) + 2) = length-append (name_text w) (entries_text rs ++ line_end_text) ∙ ap (◌+◌ (length (name_text w))) (length-append (entries_text rs) line_end_text) in
     omega (arith, p.place, named, name_length w, entries_length rs)
+
+-- the entries put of the list's own part are those of the list, and take no more than their room
+module _ {h : Header} {ls : List ℕ} (u : Ruled h ls) (w : WhichList) {p : Part} {from to : ℕ} (q : p ≡ part_in w h) (f : from ≡ part_of (width h.sorted) w) (t : to ≡ part_of (width h.sorted) w + width h.sorted)
+  {before after : List ℕ} {at next : ℕ} (put : Puts (entries_text (entries (slots_of p (take (to - from) (drop from ls))))) before at after next) where
+  pub own_entries : Puts (entries_text (entries (slots_at w (lists_in h ls)))) before at after next
+  own_entries = subst (λ (s : List Slot). Puts (entries_text (entries s)) before at after next) (lent_slots h ls u w q f t) put
+
+  pub own_within : next ≤ at + entries_room
+  own_within = entries_within _ (few (lists_in h ls) w u.keeps) own_entries

@@ -13,6 +13,7 @@ use entries::{Header, Part, WhichList};
 use memory_structs::FrameRange;
 
 // Puts the line at a place, and answers the place after it.
+#[tactic(auto, using(entries::proofs::Whole::lent_fits, entries::proofs::Whole::lent_tidy, crate::proofs::Going::name_length))]
 pub fn put_list(out: &mut [u8], at: usize, h: Header, lists: &[u64], which: WhichList) -> usize
     requires ruled { Ruled h lists.now }
     requires line_room_in_bounds { at + line_room ≤ length out.old }

@@ -9,18 +9,6 @@ use borrow.Rule.Slice.PartMut.{post_of, put_mid}
 use Rattle.lines.proofs.Words.{to_end}
 use Rattle.bench_texts.specs.Texts.{Puts}
 
--- a text copied to its place
-pub put_copied : (text before part : List ℕ) (at : ℕ) → at + length text ≤ length before →
-    part ≡ take (length text) text ++ drop (length text) (take (length before - at) (drop at before)) →
-    Puts text before at (put_mid at (length before - at) before part) (at + length text)
-put_copied text before part at room made = record { place = refl; bytes = ap (◌++◌ (take at before)) (rw made done) }
-  where
-    none : post_of at (length before - at) before ≡ []
-    none = drop-drop (length before - at) at before ∙ drop_of_length-le before {i = at + (length before - at)} (omega arith)
-
-    done : (take (length text) text ++ drop (length text) (take (length before - at) (drop at before))) ++ post_of at (length before - at) before ≡ text ++ drop (at + length text) before
-    done = rw (none, take-length text, to_end at before, drop-drop (length text) at before) (simp append-nil)
-
 -- one text, then another
 pub puts_then : {t u a b c : List ℕ} {i j k : ℕ} → i ≤ length a → Puts t a i b j → Puts u b j c k → Puts (t ++ u) a i c k
 puts_then {t} {u} {a} {b} {c} {i} {j} {k} inside p q = record { place = omega (arith, p.place, q.place, length-append t u); bytes = q.bytes ∙ all }
@@ -51,8 +39,3 @@ puts_nothing a i =
     let e : i ≡ i + 0 = omega arith in
     record { place = e; bytes = sym (take-append-drop i a) ∙ ap (λ (n : ℕ). take i a ++ drop n a) e }
 
--- a text ends inside the buffer
-pub puts_inside : {t a b : List ℕ} {i j : ℕ} → i ≤ length a → Puts t a i b j → j ≤ length b
-puts_inside {t} {a} {b} {i} {j} inside p =
-    let long : length b ≡ length (take i a) + (length t + length (drop (i + length t) a)) = ap length p.bytes ∙ simp length-append in
-    omega (arith, p.place, long, length-take-le i a inside)

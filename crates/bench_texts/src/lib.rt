@@ -7,7 +7,8 @@ ghost use Rattle.bench_texts.specs.Texts.{Puts, decimal_text, range_text, refusa
 use memory_structs::FrameRange;
 use model::Answer;
 
-// Puts the text at a place, and answers the place after it.
+// Puts the text at a place, and answers the place after it. `out` and `at` are two parameters here and below: a struct that lends the
+// buffer has to be made anew at each place that a caller joins texts from, and `Puts` would speak of both its fields all the same.
 pub fn put_text(out: &mut [u8], at: usize, text: &[u8]) -> usize
     requires { at + length text.now ≤ length out.old }
     ensures { Puts text.now out.old at out.new result }

@@ -113,7 +113,7 @@ fn answer_line(reached: Reached, buffers: &mut Buffers) -> Reply
     let reply = reached
         .bench
         .answer(line, out, &mut buffers.areas, &mut buffers.words);
-    // Not `writeln!`: the text is bytes of a lent buffer, and where writing fails the next line is answered all the same.
+    // By the kit's `io`: std's writer would be lent from `main` to here, and its `Result` dropped, as the next line is answered anyway.
     io::write_all(STDOUT_FILENO, &buffers.out[..reply.len]);
     reply
 }
