@@ -1,5 +1,4 @@
 -- Of every refusal: its number, and what it answers.
-use Prim.Native.Nat.{ℕ}
 use native.Mathlib.Omega.{arith}
 use mathlib.Core.Path.{◌≡◌, refl}
 use Rattle.model.specs.Requests.{without_frames}

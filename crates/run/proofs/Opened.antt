@@ -1,5 +1,5 @@
 -- The record of a run stands open: what holds of it from call to call.
-use Prim.Native.Nat.{ℕ, zero, suc}
+use Prim.Native.Nat.{ℕ}
 use native.Mathlib.Omega.{arith}
 use mathlib.Core.Path.{◌≡◌, refl, sym, ap, subst, ◌∙◌}
 use mathlib.Core.Bool.{true, false, ◌&&◌, true≢false, false≢true}
@@ -10,7 +10,6 @@ use Rattle.model.specs.Queries.{HeldWritten, held_runs}
 use Rattle.model.specs.Calls.{Call, held_call, answer, short_buffer}
 use Rattle.model.specs.Store.{load, record_of}
 use Rattle.model.specs.declared.FrameAllocator.{FrameAllocator}
-use Rattle.model.specs.declared.refusals.Refusal.{Refusal}
 use Rattle.std.specs.Prelude.{Ok, Err}
 use Rattle.std.specs.Result.{is_err}
 use Rattle.model.proofs.Carried.{Stands, loads}

@@ -20,7 +20,7 @@ use Rattle.model.specs.declared.Kind.TheVariants.{General, Reserved}
 use Rattle.model.specs.declared.FrameAllocator.{FrameAllocator}
 use Rattle.model.specs.declared.refusals.Refusal.{Refusal}
 use Rattle.model.specs.declared.refusals.Refusal.TheVariants.{TooFewWords}
-use Rattle.model.specs.Refusals.{number, refused_answer}
+use Rattle.model.specs.Refusals.{number}
 use Rattle.memory_structs.specs.declared.range.FrameRange.{FrameRange}
 use Rattle.model.proofs.Each.{changes_form}
 use Rattle.rules.specs.Check.{checked, verdict, Verdict, refused_with}
