@@ -121,7 +121,7 @@ line_within l w ruled p =
 
 -- the entries put of the list's own part are those of the list, and take no more than their room
 module _ {h : Header} {ls : List ℕ} (u : Ruled h ls) (w : WhichList) {p : Part} {from to : ℕ} (q : p ≡ part_in w h) (f : from ≡ part_of (width h.sorted) w) (t : to ≡ part_of (width h.sorted) w + width h.sorted)
-  {before after : List ℕ} {at next : ℕ} (put : Puts (entries_text (entries (slots_of p (take (to - from) (drop from ls))))) before at after next) where
+    {before after : List ℕ} {at next : ℕ} (put : Puts (entries_text (entries (slots_of p (take (to - from) (drop from ls))))) before at after next) where
   pub own_entries : Puts (entries_text (entries (slots_at w (lists_in h ls)))) before at after next
   own_entries = subst (λ (s : List Slot). Puts (entries_text (entries s)) before at after next) (lent_slots h ls u w q f t) put
 

@@ -38,4 +38,3 @@ pub puts_nothing : (a : List ℕ) (i : ℕ) → Puts [] a i a i
 puts_nothing a i =
     let e : i ≡ i + 0 = omega arith in
     record { place = e; bytes = sym (take-append-drop i a) ∙ ap (λ (n : ℕ). take i a ++ drop n a) e }
-
