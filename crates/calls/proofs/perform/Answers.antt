@@ -9,11 +9,6 @@ use Rattle.calls.specs.Operations.{call_of}
 use Rattle.calls.proofs.Kept.{never_short, keeps_form}
 use Rattle.calls.proofs.perform.Goals as goal
 
-pub returns-in-Err : goal.returns-in-Err
-returns-in-Err c = let a = c.args in
-    subst (λ (x : Called). Gives (call_of a.operation) a.a a.words.now x a.words.now) (sym c.refused.ensures)
-    (gives_refused (call_of a.operation) a.a a.words.now (never_short a.operation) c.in-Err.refusal (sym c.open-opened.ensures.tested ∙ c.in-Err.is))
-
 pub operate-done-requires : goal.operate-done-requires
 operate-done-requires c =
     let passed : let a = c.args in checked a.a a.words.now ≡ 0 = passed_number _ _ (sym c.open-opened.ensures.tested ∙ c.in_default.is) in
@@ -31,3 +26,8 @@ returns c =
     let passed : let a = c.args in checked a.a a.words.now ≡ 0 = passed_number _ _ (sym c.open-opened.ensures.tested ∙ c.in_default.is) in
     let a = c.args in
     call_gives (call_of a.operation) a.a a.words.now (never_short a.operation) (keeps_form a.operation _) passed c.open-opened.ensures c.operate-done.ensures _ c.close.ensures
+
+pub returns-in-Err : goal.returns-in-Err
+returns-in-Err c = let a = c.args in
+    subst (λ (x : Called). Gives (call_of a.operation) a.a a.words.now x a.words.now) (sym c.refused.ensures)
+    (gives_refused (call_of a.operation) a.a a.words.now (never_short a.operation) c.in-Err.refusal (sym c.open-opened.ensures.tested ∙ c.in-Err.is))
