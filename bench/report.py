@@ -57,10 +57,10 @@ LEFT_OVER = """Why these are missed; what has been mended is in [DECISIONS.md](D
 
 - **A whole chunk leaves the middle or the bottom of a long table.** A table is an array in the lent words, so the pairs above move, up
   to 8 KB each way. The Rust has a tree, whose nodes need a heap.
-- **Early form.** The record, 2.2 KB, is handed by value from function to function: a request copies 25 to 41 KB, a return 24 KB, and a held
-  list puts the slots in order first. It doesn't grow: a list has 32 slots. Early form is for the calls between boot and sort.
-- **A checked call on short lists.** Where the test is short, the copies of the record show: in, to the test, to the call, out, back.
-- **A boot of two areas.** It makes a record whatever the areas are, 23 KB of copies of it and of lists of 32 ranges. With 32 areas and more
+- **Early form.** A single call takes the record's slots apart and writes them back, and copies 11 KB with the record; a held list puts the
+  slots in order first. It doesn't grow: a list has 32 slots. Early form is for the calls between boot and sort.
+- **A checked call on short lists.** Where the test is short, the copies of the record show: in, to the call, out, back.
+- **A boot of two areas.** It makes a record whatever the areas are, 18 KB of copies of it and of lists of 32 ranges. With 32 areas and more
   a boot takes as long as the Rust's or less.
 - **A sort of few entries.** It clears all four tables, 32 KB.
 - **A held list of few runs in sorted form.** A call of a run reads three words and writes five, and the plain walk does neither.

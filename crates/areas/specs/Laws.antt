@@ -1,4 +1,5 @@
--- Each form of a boot map keeps its laws: the areas that boot takes are the model's, and 2 refuses the same.
+-- Each form of a boot map keeps its laws: the areas that boot takes are the model's, and 2 refuses the same. They are proved here and not in
+-- proofs/, since the fields of the traits `BootMap` and `MapArea` in src/ name them, and code names nothing of proofs/.
 use Prim.Native.Nat.{ℕ}
 use mathlib.Core.Path.{◌≡◌, refl, sym, ap, subst, ◌∙◌}
 use mathlib.Core.Bool.{Bool, ◌||◌}

@@ -13,7 +13,8 @@ use carving::{RangeList, check_and_add_free_region};
 use memory_structs::FrameRange;
 use model::{Area, ByteArea, Kind};
 
-// An area as boot takes it: its frames, its kind, and whether 2 refuses it.
+// An area as boot takes it: its frames, its kind, and whether 2 refuses it. No `Result`: 5 and 4 come before 2, so an area that 2 refuses is
+// counted and looked at all the same.
 #[derive(Clone, Copy)]
 pub struct BootArea {
     pub frames: FrameRange,
@@ -114,7 +115,8 @@ impl<A: MapArea> BootMap for &[A] {
     }
 }
 
-// What the first two words of an area are: its first and last frame, or its address and its size in bytes.
+// What the first two words of an area are: its first and last frame, or its address and its size in bytes. A value and no type
+// parameter, since `run` reads it from a word of the lent calls.
 #[derive(Clone, Copy)]
 pub enum AreaUnit {
     Frames,

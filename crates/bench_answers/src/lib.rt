@@ -28,7 +28,7 @@ pub struct Bench {
     pub counts: AreaCounts,
 }
 
-// The bench after a line, and how many bytes of the buffer the line prints.
+// The bench after a line, and how many bytes of the lent buffer the line prints: no heap, so no `Vec` of them.
 #[derive(Clone, Copy)]
 pub struct Reply {
     pub bench: Bench,
@@ -121,7 +121,7 @@ impl Bench {
         ensures { Says (four_lines (load self.allocator words.now)) self out.old result out.new }
     {
         let mut slots = [0u64; 256];
-        let h = packing::take_apart(self.allocator, &mut slots);
+        let h = packing::take_apart(&self.allocator, &mut slots);
         let lists = packing::entries_of(h, &slots, words);
         let len = put_lists(out, h, lists);
         Reply { bench: self, len }

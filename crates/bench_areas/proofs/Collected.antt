@@ -1,11 +1,11 @@
 -- One area more.
 use native.Mathlib.Omega.{arith}
 use Prim.Native.Nat.{ℕ, zero, suc, ◌+◌, ◌*◌, ◌≤◌, ◌<◌}
-use native.Mathlib.Numerals.{add-one}
+use Rattle.std.proofs.lemmas.Grind.{take-set_at}
 use mathlib.Core.Path.{◌≡◌, refl, sym, ap, subst, ◌∙◌}
 use mathlib.Core.List.{List, [], ◌∷◌, ◌++◌, append_assoc}
 use lib.ListN.{length, take, set, length-set}
-use lib.Seq.{take-suc-set, length-take-le}
+use lib.Seq.{length-take-le}
 use Rattle.model.specs.declared.Area.{Area}
 use Rattle.model.specs.declared.Kind.{Kind}
 use Rattle.model.specs.declared.Kind.TheVariants.{General, Reserved}
@@ -32,14 +32,9 @@ triples_more f (suc k) (a ∷ b ∷ c ∷ ws) x y z e = ap (◌∷◌ (f a b c))
 -- three words written one after another
 written : (ws : List ℕ) (at x y z : ℕ) → at + 3 ≤ length ws → take (at + 3) (set (set (set ws at x) (at + 1) y) (at + 2) z) ≡ take at ws ++ (x ∷ y ∷ z ∷ [])
 written ws at x y z room =
-    let three : at + 3 ≡ suc (at + 2) = omega arith in
-    let two : at + 2 ≡ suc (at + 1) = omega arith in
-    ap (λ (n : ℕ). take n (set (set (set ws at x) (at + 1) y) (at + 2) z)) three
-    ∙ take-suc-set (set (set ws at x) (at + 1) y) (at + 2) z (simp length-set (omega arith))
-    ∙ ap (λ (n : ℕ). take n (set (set ws at x) (at + 1) y) ++ (z ∷ [])) two
-    ∙ ap (λ (l : List ℕ). l ++ (z ∷ [])) (take-suc-set (set ws at x) (at + 1) y (simp length-set (omega arith)))
-    ∙ ap (λ (n : ℕ). (take n (set ws at x) ++ (y ∷ [])) ++ (z ∷ [])) (add-one at)
-    ∙ ap (λ (l : List ℕ). (l ++ (y ∷ [])) ++ (z ∷ [])) (take-suc-set ws at x (omega arith))
+    take-set_at (set (set ws at x) (at + 1) y) (at + 2) (at + 3) z (omega arith) (simp length-set (omega arith))
+    ∙ ap (λ (l : List ℕ). l ++ (z ∷ []))
+    (take-set_at (set ws at x) (at + 1) (at + 2) y (omega arith) (simp length-set (omega arith)) ∙ ap (λ (l : List ℕ). l ++ (y ∷ [])) (take-set_at ws at (at + 1) x refl (omega arith)))
     ∙ simp append_assoc
 
 -- an area more of a kind that is not full: the counts

@@ -8,6 +8,7 @@ use lib.ListN.{length, take, length-append, length-take, length-drop}
 use lib.Seq.{take_all, take_at, take-append-add}
 use lib.Dec.{leb}
 use borrow.Author.Tests.{leb-true, leb-false}
+use Rattle.std.proofs.lemmas.List.{take_min}
 use borrow.Rule.Slice.PartMut.{post_of, put_mid, same_len_mid}
 use Rattle.bench_lines.specs.Commands.{command_of}
 use Rattle.bench_lines.specs.Lines.{LineHeld}
@@ -43,11 +44,7 @@ held_as line more part n m k r in-line some room wide is all answered =
 
 -- as many as there are, or as have room
 pub as_many : (more : List ℕ) (room n : ℕ) → n ≡ min (length more) room → take room more ≡ take n more
-as_many more room n is = go (leb (length more) room) refl
-  where
-    go : (t : Bool) → leb (length more) room ≡ t → take room more ≡ take n more
-    go true e = take_all room more (leb-true (length more) room e) ∙ sym (take_all n more (omega (arith, leb-true (length more) room e)))
-    go false e = let same : room ≡ n = omega (arith, leb-false (length more) room e) in ap (λ (k : ℕ). take k more) same
+as_many more room n is = let same : min room (length more) ≡ n = omega (arith, is) in sym (take_min room more) ∙ ap (λ (k : ℕ). take k more) same
 
 take_again : (n : ℕ) (a b : List ℕ) → take n (take n a ++ b) ≡ take n (a ++ b)
 take_again zero a b = refl

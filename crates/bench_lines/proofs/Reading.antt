@@ -2,24 +2,19 @@
 use native.Mathlib.Omega.{arith}
 use Prim.Native.Nat.{ℕ, suc, ◌-◌, ◌≤◌, ◌<◌}
 use mathlib.Core.Path.{◌≡◌, refl, sym, ap, ◌∙◌}
-use mathlib.Core.Bool.{Bool, true, false}
 use mathlib.Core.List.{List, [], ◌∷◌}
 use mathlib.Core.Logic.{◌≢◌}
-use mathlib.Core.Bool.{◌&&◌}
 use lib.ListN.{length, take, drop, get_or, drop_of_length-le}
 use lib.Seq.{drop-cons}
 use lib.Dec.{eqb}
 use Rattle.std.specs.Str.{bytes_eq}
 use borrow.Author.Tests.{le-leb, lt-leb, lt-ltb, le-ltb, eq-eqb, ne_eqb}
+use Rattle.std.proofs.Math.Bool.{and-true}
 use Rattle.std.proofs.Common.{Option, Some, None}
 use Rattle.std.proofs.lemmas.Iterator.{YieldsList}
 use Rattle.std.specs.Iterator.{AlwaysYields}
 use Rattle.lines.specs.Words.{words_in}
 use Rattle.bench_lines.specs.Commands.{command_in, is_form, inside, command_of}
-
-and_true : (t : Bool) → (t && true) ≡ t
-and_true true = refl
-and_true false = refl
 
 -- ---- a line by its length and its brackets
 
@@ -37,12 +32,12 @@ module _ (line : List ℕ) where
     where
       go : (l : List ℕ) → 2 ≤ length l → (x : ℕ) → bytes_eq (take 1 l) (x ∷ []) ≡ eqb (get_or l 0 0) x
       go [] long x = absurd (omega arith)
-      go (b ∷ l) long x = and_true (eqb b x)
+      go (b ∷ l) long x = and-true (eqb b x)
 
   last : 2 ≤ length line → (x : ℕ) → bytes_eq (drop (length line - 1) line) (x ∷ []) ≡ eqb (get_or line (length line - 1) 0) x
   last long x =
       let none : drop (suc (length line - 1)) line ≡ [] = drop_of_length-le line {i = suc (length line - 1)} (omega arith) in
-      rw (drop-cons line (length line - 1) 0 (omega arith), none) (and_true (eqb (get_or line (length line - 1) 0) x))
+      rw (drop-cons line (length line - 1) 0 (omega arith), none) (and-true (eqb (get_or line (length line - 1) 0) x))
 
   module _ (short : length line ≤ 128) (long : 2 ≤ length line) where
     pub not_opened : get_or line 0 0 ≢ 40 → None ≡ command_of line

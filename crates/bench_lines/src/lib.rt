@@ -1,7 +1,7 @@
 // The lines that `framebench` reads, and the commands that they are: document 01, "The bench program".
 #![tactic(auto)]
 
-ghost use Rattle.std.specs.Prelude.{◌≡◌, ◌∷◌, ◌++◌, ◌≤◌, length, take};
+ghost use Rattle.std.specs.Prelude.{◌≡◌, ◌++◌, ◌≤◌, length, take};
 ghost use Rattle.lines.specs.Words.{words_in};
 ghost use Rattle.bench_lines.specs.Commands as command;
 ghost use Rattle.bench_lines.specs.Lines.{LineHeld};

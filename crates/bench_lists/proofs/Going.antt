@@ -12,7 +12,7 @@ use Rattle.model.specs.Lists.{Lists, Slot, unused, used, entries, range_at, boun
 use Rattle.model.specs.Rules.{rules}
 use Rattle.model.proofs.Lawful.{AllSound}
 use Rattle.model.proofs.Ruled.{tidy_is}
-use Rattle.entries.specs.Part.{IsPart, slots_in, slots_of, width}
+use Rattle.entries.specs.Part.{IsPart, slots_in, part_slots, width}
 use Rattle.entries.specs.Whole.{slots_at, lists_in, part_in, part_of, Ruled}
 use Rattle.entries.proofs.Forms.{sorted_length, early_length}
 use Rattle.entries.proofs.Whole.{tidy_list, lent_slots}
@@ -121,7 +121,7 @@ line_within l w ruled p =
 
 -- the entries put of the list's own part are those of the list, and take no more than their room
 module _ {h : Header} {ls : List ℕ} (u : Ruled h ls) (w : WhichList) {p : Part} {from to : ℕ} (q : p ≡ part_in w h) (f : from ≡ part_of (width h.sorted) w) (t : to ≡ part_of (width h.sorted) w + width h.sorted)
-    {before after : List ℕ} {at next : ℕ} (put : Puts (entries_text (entries (slots_of p (take (to - from) (drop from ls))))) before at after next) where
+    {before after : List ℕ} {at next : ℕ} (put : Puts (entries_text (entries (part_slots p (take (to - from) (drop from ls))))) before at after next) where
   pub own_entries : Puts (entries_text (entries (slots_at w (lists_in h ls)))) before at after next
   own_entries = subst (λ (s : List Slot). Puts (entries_text (entries s)) before at after next) (lent_slots h ls u w q f t) put
 

@@ -3,7 +3,7 @@
 
 ghost use Rattle.std.specs.Prelude.{◌≡◌, ◌+◌, ◌≤◌, length};
 ghost use Rattle.model.specs.Lists.{entries};
-ghost use Rattle.entries.specs.Part.{slots_of, Holds, IsTidy};
+ghost use Rattle.entries.specs.Part.{part_slots, Holds, IsTidy};
 ghost use Rattle.entries.specs.Whole.{lists_in, Ruled};
 ghost use Rattle.bench_texts.specs.Texts.{Puts};
 ghost use Rattle.bench_lists.specs.ListLines.{entry_room, entries_room, line_room, entry_text, entries_text, name_text, line_of};
@@ -41,7 +41,7 @@ fn put_name(out: &mut [u8], at: usize, which: WhichList) -> usize
 fn put_entries(out: &mut [u8], at: usize, part: Part, t: &[u64]) -> usize
     requires tidy { IsTidy part t.now }
     requires entries_room_in_bounds { at + entries_room ≤ length out.old }
-    ensures { Puts (entries_text (entries (slots_of part t.now))) out.old at out.new result }
+    ensures { Puts (entries_text (entries (part_slots part t.now))) out.old at out.new result }
 {
     let mut next = at;
     for i in 0..slots_in(part, t) {
@@ -56,7 +56,7 @@ fn put_entries(out: &mut [u8], at: usize, part: Part, t: &[u64]) -> usize
 // How many slots the list has.
 fn slots_in(part: Part, t: &[u64]) -> usize
     requires { Holds part t.now }
-    ensures { result ≡ length (slots_of part t.now) }
+    ensures { result ≡ length (part_slots part t.now) }
 {
     if part.sorted { part.len } else { 32 }
 }

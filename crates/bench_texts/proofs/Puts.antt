@@ -1,12 +1,10 @@
 -- Texts put one after another.
 use native.Mathlib.Omega.{arith}
-use Prim.Native.Nat.{ℕ, ◌+◌, ◌-◌, ◌≤◌}
-use mathlib.Core.Path.{◌≡◌, refl, sym, ap, ◌∙◌}
-use mathlib.Core.List.{List, [], ◌++◌, append-nil, append_assoc}
-use lib.ListN.{length, take, drop, length-append, length-take, take-append-drop, drop_of_length-le}
-use lib.Seq.{length-take-le, take-length, take_at, drop_at, drop-drop}
-use borrow.Rule.Slice.PartMut.{post_of, put_mid}
-use Rattle.lines.proofs.Words.{to_end}
+use Prim.Native.Nat.{ℕ, ◌+◌, ◌≤◌}
+use mathlib.Core.Path.{◌≡◌, sym, ap, ◌∙◌}
+use mathlib.Core.List.{List, [], ◌++◌, append_assoc}
+use lib.ListN.{length, take, drop, length-append, length-take, take-append-drop}
+use lib.Seq.{take_at, drop_at, drop-drop}
 use Rattle.bench_texts.specs.Texts.{Puts}
 
 -- one text, then another

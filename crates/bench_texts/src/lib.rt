@@ -17,7 +17,7 @@ pub fn put_text(out: &mut [u8], at: usize, text: &[u8]) -> usize
     at + text.len()
 }
 
-// The number in decimal: 20 digits at most.
+// The number in decimal: 20 digits at most. Not by `write!` to a `Cursor`: its `Result` could not fail here, and would be dropped.
 pub fn put_number(out: &mut [u8], at: usize, n: u64) -> usize
     requires { at + 20 ≤ length out.old }
     ensures { Puts (decimal_text n) out.old at out.new result }

@@ -28,7 +28,8 @@ use Rattle.areas.specs.declared.Collected.{Collected}
 use Rattle.areas.specs.Areas.{extents, any_outside, reserved_in, pieces_in, CollectedOf}
 use Rattle.areas.specs.Boots.{Bounded}
 use Rattle.filling.specs.Filled.{filled_record}
-use Rattle.boot.specs.Boots.{refused_by, refusal_of}
+use Rattle.model.specs.Refusals.{refused_by}
+use Rattle.boot.specs.Boots.{refusal_of}
 
 -- an area that passes 2 ends at or below the top
 reserved_low : (xs : List Extent) → any_of above_top (ranges xs) ≡ false → all_of (λ r. leb r.end top) (reserved_of xs) ≡ true

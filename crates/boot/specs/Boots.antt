@@ -1,19 +1,12 @@
 -- Boot in the shape of its code. The words in quotes are document 01's.
-use Rattle.std.specs.Prelude.{ℕ, List, Result, Ok, Err, ltb}
+use Rattle.std.specs.Prelude.{ℕ, List, ltb}
 use Rattle.std.specs.Prelude.{if◌then◌else◌}
 use Rattle.model.specs.Lists.{Lists}
 use Rattle.model.specs.Boot as model
 use Rattle.model.specs.Calls.{no_entries}
-use Rattle.model.specs.Refusals.{number}
-use Rattle.model.specs.declared.refusals.Refusal.{Refusal}
 use Rattle.areas.specs.declared.BootArea.{BootArea}
 use Rattle.areas.specs.declared.Collected.{Collected}
 use Rattle.areas.specs.Areas.{extents, any_outside}
-
--- the number that refuses, 0 where none does
-abbrev pub refused_by : {A : Type 0} → Result A Refusal → ℕ
-refused_by (Ok x) = 0
-refused_by (Err r) = number r
 
 -- "Order: 3, 11; boot then 10, 5, 4, 2, 7, 6": the number after 3 and 11
 unfoldable pub boot_number : Lists → List BootArea → ℕ

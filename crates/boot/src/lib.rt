@@ -1,19 +1,21 @@
 // From a boot map to the four lists: document 01, "Boot" (000, `init`).
 #![tactic(auto)]
 
-ghost use Rattle.std.specs.Prelude.{◌≡◌, ◌==◌, ℕ, List, length, not, IfOk};
+ghost use Rattle.std.specs.Prelude.{◌≡◌, ◌==◌, ℕ, List, length, not, Ok, Err, OnOk, OnErr};
 ghost use Rattle.std.specs.List.{list_any};
 ghost use Rattle.model.specs.Boot as model;
 ghost use Rattle.model.specs.Calls.{boot_call, boot_bytes_call, Gives, no_entries};
 ghost use Rattle.model.specs.Lists.{entries};
+ghost use Rattle.model.specs.Refusals.{refused_by};
 ghost use Rattle.model.specs.Store.{slots_of, load, record_of};
-ghost use Rattle.rules.specs.Check.{Ruled};
+ghost use Rattle.model.specs.declared.refusals.Refusal.{Refusal};
+ghost use Rattle.rules.specs.Check.{verdict};
 ghost use Rattle.areas.specs.Areas.{areas_in, byte_areas_in, extents};
 ghost use Rattle.areas.specs.Boots.{boot_call_of};
-ghost use Rattle.boot.specs.Boots.{refused_by, boot_number, refusal_of};
+ghost use Rattle.boot.specs.Boots.{boot_number, refusal_of};
 
 use areas::{AreaUnit, BootMap, Collected, WordAreas};
-use model::{Called, EarlyList, FrameAllocator, Refusal};
+use model::{Answer, Called, EarlyList, FrameAllocator, Refusal};
 
 // Boots from areas given as first frame, last frame and kind. The workspace has 4,096 words in either form, else 3; it is read only in
 // sorted form, and never written.
@@ -25,7 +27,7 @@ pub fn init(a: FrameAllocator, areas: &[u64], words: &[u64]) -> Called
     boot_map(a, &WordAreas { words: areas, unit }, words)
 }
 
-// Boots from areas given as address, size in bytes and kind.
+// "A second entry takes areas as start address, byte size and kind".
 #[tactic(auto, unfolding(areas::specs::Boots::boot_call_of))]
 pub fn init_from_bytes(a: FrameAllocator, areas: &[u64], words: &[u64]) -> Called
     ensures { Gives (boot_bytes_call (byte_areas_in areas.now)) a words.now result words.now }
@@ -34,40 +36,52 @@ pub fn init_from_bytes(a: FrameAllocator, areas: &[u64], words: &[u64]) -> Calle
     boot_map(a, &WordAreas { words: areas, unit }, words)
 }
 
-// A boot from areas in either unit, of a record that keeps the rules: 10 comes first.
-pub fn boot_words(a: FrameAllocator, areas: &[u64], unit: AreaUnit, words: &[u64]) -> Called
-    requires { Ruled a words.now }
-    ensures { Gives (boot_call_of unit areas.now) a words.now result words.now }
+// A boot from areas in either unit, of a record whose test is known.
+pub fn boot_words(
+    a: FrameAllocator,
+    tested: Result<(), Refusal>,
+    areas: &[u64],
+    unit: AreaUnit,
+) -> Called
+    ensures { (ws : List ℕ) → tested ≡ verdict a ws → Gives (boot_call_of unit areas.now) a ws result ws }
 {
-    boot_ruled(a, &WordAreas { words: areas, unit }, words)
+    boot_tested(a, tested, &WordAreas { words: areas, unit })
 }
 
-// A boot from a map in any form: 3 and 11; then as a record that keeps the rules is booted.
+// A boot from a map in any form.
 pub fn boot_map<M: BootMap>(a: FrameAllocator, map: &M, words: &[u64]) -> Called
     ensures { Gives (M.call map.now) a words.now result words.now }
 {
-    match rules::check(a, words) {
-        Ok(()) => boot_ruled(a, map, words),
-        Err(refusal) => rules::refused(a, refusal),
-    }
+    let tested = rules::check(&a, words);
+    boot_tested(a, tested, map)
 }
 
-// The same of a record that keeps the rules.
-fn boot_ruled<M: BootMap>(a: FrameAllocator, map: &M, words: &[u64]) -> Called
-    requires { Ruled a words.now }
-    ensures { Gives (M.call map.now) a words.now result words.now }
+// The record is filled where it is handed back, so that it is not copied on.
+fn boot_tested<M: BootMap>(a: FrameAllocator, tested: Result<(), Refusal>, map: &M) -> Called
+    ensures { (ws : List ℕ) → tested ≡ verdict a ws → Gives (M.call map.now) a ws result ws }
 {
-    match filled(&a, map) {
-        Ok(booted) => rules::accepted(booted, 0),
-        Err(refusal) => rules::refused(a, refusal),
+    let mut called = Called {
+        answer: Answer::counted(0),
+        allocator: a,
+    };
+    if let Err(refusal) = fill(&mut called.allocator, tested, map) {
+        called.answer = Answer::from(refusal);
     }
+    called
 }
 
-// "boot then 10, 5, 4, 2, 7, 6", or the record with its lists filled.
-fn filled<M: BootMap>(a: &FrameAllocator, map: &M) -> Result<FrameAllocator, Refusal>
-    ensures number { (ws : List ℕ) → refused_by result ≡ boot_number (load a.now ws) (M.areas map.now) }
-    ensures lists { IfOk result (λ booted. booted ≡ record_of (model.booted (extents (M.areas map.now)))) }
+// "Order: 3, 11; boot then 10, 5, 4, 2, 7, 6"; else the lists are filled.
+fn fill<M: BootMap>(
+    a: &mut FrameAllocator,
+    tested: Result<(), Refusal>,
+    map: &M,
+) -> Result<(), Refusal>
+    ensures tested { (r : Refusal) → tested ≡ Err r → result ≡ Err r }
+    ensures number { (ws : List ℕ) → tested ≡ Ok tt → refused_by result ≡ boot_number (load a.old ws) (M.areas map.now) }
+    ensures ok { OnOk result (a.new ≡ record_of (model.booted (extents (M.areas map.now)))) }
+    ensures err { OnErr result (a.new ≡ a.old) }
 {
+    tested?;
     if has_entries(a) {
         return Err(Refusal::NotEmpty);
     }
@@ -82,7 +96,8 @@ fn filled<M: BootMap>(a: &FrameAllocator, map: &M) -> Result<FrameAllocator, Ref
     if !filling::are_disjoint(&pieces, &joined) {
         return Err(Refusal::PiecesMeet);
     }
-    Ok(filling::fill_lists(&pieces, &joined))
+    filling::fill_lists(a, &pieces, &joined);
+    Ok(())
 }
 
 // 10: "boot, and any list is not empty". In sorted form the record keeps how many entries there are; the words are not looked at.

@@ -2,7 +2,6 @@
 // by value.
 #![tactic(auto)]
 
-ghost use Rattle.std.specs.Prelude.{◌≡◌, length};
 ghost use Rattle.model.specs.Calls.{return_call, answer, Gives};
 ghost use Rattle.entries.specs.Whole.{lists_in, Ruled, Does};
 ghost use Rattle.packing.specs.Open.{lent, DoesOpen};
@@ -11,9 +10,10 @@ ghost use Rattle.calls.specs.Operations.{call_of};
 
 use entries::{Answered, Header};
 use memory_structs::FrameRange;
-use model::{Called, FrameAllocator};
+use model::{Answer, Called, FrameAllocator};
 use requests::Request;
 
+// A request or a return. Data, and no closure: `call_of` says of both which call of the model they are, and the archive has `perform` once.
 #[derive(Clone, Copy)]
 pub enum Operation {
     Allocate(Request),
@@ -38,13 +38,21 @@ pub fn return_frames(a: FrameAllocator, words: &mut [u64], range: FrameRange) ->
 fn perform(a: FrameAllocator, words: &mut [u64], operation: Operation) -> Called
     ensures { Gives (call_of operation) a words.old result words.new }
 {
+    // It is changed where it is handed back, so that it is not copied on.
+    let mut called = Called {
+        answer: Answer::counted(0),
+        allocator: a,
+    };
     let mut slots = [0u64; 256];
-    let opened = rules::open(a, words, &mut slots);
+    let opened = rules::open(&a, words, &mut slots);
     if let Err(refusal) = opened.tested {
-        return rules::refused(a, refusal);
+        called.answer = Answer::from(refusal);
+        return called;
     }
     let done = operate(opened.header, &mut slots, words, operation);
-    packing::close(a, done, &slots)
+    called.answer = done.answer;
+    packing::close(&mut called.allocator, done.header, &slots);
+    called
 }
 
 // On an allocator that stands open, whose entries are the workspace in sorted form and the slots in early form.
@@ -52,6 +60,8 @@ pub fn operate(h: Header, slots: &mut [u64], words: &mut [u64], operation: Opera
     requires { Ruled h (lent h.sorted slots.old words.old) }
     ensures { DoesOpen (answer (call_of operation)) h slots.old words.old result slots.new words.new }
 {
+    // Two calls, and no function that returns one of the two `&mut`: its caller would not know what either slice is left as, since the
+    // check proves such a clause only where "the body hands on one field or a call's result".
     if h.sorted {
         return on_entries(h, words, operation);
     }

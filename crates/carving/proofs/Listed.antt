@@ -5,7 +5,7 @@ use lib.Seq.{take_all}
 use Rattle.memory_structs.specs.Range.{range}
 use Rattle.memory_structs.specs.declared.range.FrameRange.{FrameRange}
 use Rattle.carving.specs.declared.RangeList.{RangeList}
-use Rattle.carving.specs.Ranges.{padded, listed, ranges_in, Whole, Counted, Appended}
+use Rattle.carving.specs.Ranges.{padded, listed, ranges_in, Whole, Appended}
 
 set_padded : (n : ℕ) (rs : List FrameRange) (r : FrameRange) → length rs < n → set (padded n rs) (length rs) r ≡ padded n (rs ++ r ∷ [])
 unfolding padded
@@ -61,9 +61,6 @@ listed_whole l rs h e = record {
   few = omega (arith, count l rs e);
   is = e ∙ ap listed (sym (ap ranges_in e ∙ read_back rs h));
 }
-
-pub listed_counted : (l : RangeList) (rs : List FrameRange) → l ≡ listed rs → Counted l
-listed_counted l rs e h = listed_whole l rs (omega (arith, count l rs e)) e
 
 -- of a list that has stored all, `len` is how many
 pub whole_length : (l : RangeList) → Whole l → length (ranges_in l) ≡ l.len

@@ -8,7 +8,8 @@ ghost use Rattle.carving.specs.Ranges.{listed, ranges_in, Carvable, Appended};
 
 use memory_structs::FrameRange;
 
-// Ranges in the order in which they came, the first 32 of them. `len` is 33 where there are more.
+// Ranges in the order in which they came, the first 32 of them. `len` is 33 where there are more: no heap stores them, and boot's 5 and 7 ask
+// only whether there are more.
 #[derive(Clone, Copy)]
 pub struct RangeList {
     pub ranges: [FrameRange; 32],

@@ -16,7 +16,7 @@ use Rattle.model.specs.Lists.{Slot, unused, used, entries, any_of, all_of, disjo
 use Rattle.model.specs.Rules.{slotted, tidy}
 use Rattle.model.proofs.Plainly.{fewer_entries}
 use Rattle.pairs.specs.Pairs.{pair_slot, pair_slots}
-use Rattle.pairs.proofs.Slots.{pair_used, pair_unused, pair_at_holds, pairs_length}
+use Rattle.pairs.proofs.Pairs.{pair_used, pair_unused, pair_at_holds, pairs_length}
 use Rattle.pairs.proofs.Turns.{left, range_of, one_used, none_left}
 use Rattle.early_rules.specs.Slot.{tidy_slot}
 use Rattle.early_rules.proofs.Stored.{sound}

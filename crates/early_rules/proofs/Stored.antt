@@ -16,9 +16,9 @@ use Rattle.model.specs.Lists.{Slot, entries, all_of, disjoint, bound}
 use Rattle.model.specs.Rules.{slotted, tidy}
 use Rattle.model.specs.Store.{zipped, slots_of, emptied, none_used}
 use Rattle.model.specs.declared.EarlyList.{EarlyList}
-use Rattle.model.proofs.Early.{Arrays}
+use Rattle.model.specs.Store.{Arrays}
 use Rattle.pairs.specs.Pairs.{pair_slots}
-use Rattle.pairs.proofs.Slots.{pair_used, pair_unused}
+use Rattle.pairs.proofs.Pairs.{pair_used, pair_unused}
 use Rattle.packing.specs.Packed.{interleaved}
 use Rattle.early_rules.specs.Slot.{each_slot, plain_slot, plain}
 

@@ -10,7 +10,7 @@ use model::FrameAllocator;
 pub extern "C" fn likhmout_check(a: &FrameAllocator, words: &[u64]) -> u64
     ensures { result ≡ checked a.now words.now }
 {
-    match rules::check(*a, words) {
+    match rules::check(a, words) {
         Ok(()) => 0,
         Err(refusal) => refusal.number(),
     }

@@ -39,26 +39,25 @@ fn meets_any(range: FrameRange, others: &[FrameRange]) -> bool
     others.iter().any(|other| range.meets(*other))
 }
 
-// "then fill the lists, in early form": the pieces and the reserved areas are free, and they are the regions.
+// "then fill the lists, in early form": the pieces and the reserved areas are free, and they are the regions. They are written in place, so
+// that the record is not copied.
 #[tactic(auto, unfolding(model::specs::Store::record_of, model::specs::Store::early_in, model::specs::Store::length_in))]
-pub fn fill_lists(pieces: &RangeList, reserved: &RangeList) -> FrameAllocator
+pub fn fill_lists(a: &mut FrameAllocator, pieces: &RangeList, reserved: &RangeList)
     requires whole { Whole pieces.now }
     requires whole_2 { Whole reserved.now }
-    ensures { result ≡ filled_record (ranges_in pieces.now) (ranges_in reserved.now) }
+    ensures { a.new ≡ filled_record (ranges_in pieces.now) (ranges_in reserved.now) }
 {
     let general = early_list(pieces);
     let reserved = early_list(reserved);
-    FrameAllocator {
-        sorted: false,
-        general_free: general,
-        reserved_free: reserved,
-        general_regions: general,
-        reserved_regions: reserved,
-        general_free_len: 0,
-        reserved_free_len: 0,
-        general_regions_len: 0,
-        reserved_regions_len: 0,
-    }
+    a.sorted = false;
+    a.general_free = general;
+    a.reserved_free = reserved;
+    a.general_regions = general;
+    a.reserved_regions = reserved;
+    a.general_free_len = 0;
+    a.reserved_free_len = 0;
+    a.general_regions_len = 0;
+    a.reserved_regions_len = 0;
 }
 
 // The ranges in the first slots, in their order; the other slots are unused.

@@ -1,4 +1,5 @@
-// The public face: every call of document 01. A call that changes the record changes it in place; a question takes a copy.
+// The public face: every call of document 01. A call that changes the record changes it in place; a question
+// takes a copy, and the test reads it.
 #![tactic(auto)]
 
 ghost use Rattle.model.specs.Calls.{boot_call, boot_bytes_call, sort_call, return_call, Gives};

@@ -3,25 +3,20 @@
 
 ghost use Rattle.std.specs.Prelude.{◌≡◌, true, ◌+◌, ◌*◌, ◌≤◌, length};
 ghost use Rattle.model.specs.Rules.{tidy};
-ghost use Rattle.model.specs.Store.{table_slots};
+ghost use Rattle.tables.specs.Slots.{slots};
 ghost use Rattle.model.specs.Queries.{HeldWritten};
 ghost use Rattle.held.specs.Runs.{two_tables, next_start, touches, put_count, put_words};
 
 use memory_structs::FrameRange;
 use std::ops::Range;
+use tables::Table;
 
 // The runs go to the beginning of the buffer, ascending. One walk over both tables: at each turn a region or a free chunk is done with.
-pub fn write_runs(
-    regions: &[u64],
-    regions_len: usize,
-    chunks: &[u64],
-    chunks_len: usize,
-    buffer: &mut [u64],
-) -> usize
-    requires regions_len_in_bounds { (2 * regions_len ≤ length regions.now) × (2 * chunks_len ≤ length chunks.now) × (2048 ≤ length buffer.old) }
-    requires regions_value { tidy true (table_slots regions_len regions.now) ≡ true }
-    requires chunks_value { tidy true (table_slots chunks_len chunks.now) ≡ true }
-    ensures { HeldWritten (two_tables (table_slots regions_len regions.now) (table_slots chunks_len chunks.now)) result buffer.old buffer.new }
+pub fn write_runs(regions: Table, chunks: Table, buffer: &mut [u64]) -> usize
+    requires buffer_len { 2048 ≤ length buffer.old }
+    requires regions_value { tidy true (slots regions) ≡ true }
+    requires chunks_value { tidy true (slots chunks) ≡ true }
+    ensures { HeldWritten (two_tables (slots regions.entry) (slots chunks.entry)) result buffer.old buffer.new }
 {
     let mut runs = 0;
     let mut i = 0;
@@ -29,13 +24,13 @@ pub fn write_runs(
     // The held frames below `from` are in the buffer; the regions before i and the chunks before j end below it.
     let mut from: u64 = 0;
     // Each turn moves one of two indices, so neither is a `for`'s.
-    while i < regions_len {
-        let first = from.max(regions[2 * i]);
-        let last = regions[2 * i + 1];
-        let chunk = next_start(chunks, chunks_len, j);
+    while i < regions.len {
+        let first = from.max(regions.words[2 * i]);
+        let last = regions.words[2 * i + 1];
+        let chunk = next_start(chunks, j);
         if chunk <= last {
             runs = put_frames(buffer, runs, first..chunk);
-            from = from.max(chunks[2 * j + 1] + 1);
+            from = from.max(chunks.words[2 * j + 1] + 1);
             j += 1;
         } else {
             runs = put_frames(buffer, runs, first..last + 1);
@@ -48,12 +43,11 @@ pub fn write_runs(
 
 // The first frame of the chunk at j; a frame above the top where there is none.
 #[tactic(auto, unfolding(crate::specs::Runs::next_start))]
-fn next_start(chunks: &[u64], chunks_len: usize, j: usize) -> u64
-    requires { 2 * chunks_len ≤ length chunks.now }
-    ensures { result ≡ next_start chunks_len chunks.now j }
+fn next_start(chunks: Table, j: usize) -> u64
+    ensures { result ≡ next_start chunks.entry.len chunks.entry.words.now j }
 {
-    if j < chunks_len {
-        return chunks[2 * j];
+    if j < chunks.len {
+        return chunks.words[2 * j];
     }
     FrameRange::TOP + 1
 }

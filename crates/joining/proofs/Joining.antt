@@ -1,5 +1,5 @@
 -- The turns of joining: of the first area over the others, of a pass over the areas, and of the passes.
-use Rattle.std.proofs.Common.{◌≡◌, ℕ, ◌+◌, ◌≤◌, ◌<◌, true, false, List, [], ◌∷◌, ◌++◌, length, get_or, drop, refl, sym, ap, ◌∙◌, arith, add-one, drop-cons}
+use Rattle.std.proofs.Common.{◌≡◌, ℕ, ◌+◌, ◌≤◌, ◌<◌, true, false, List, [], ◌∷◌, ◌++◌, length, get_or, drop, sym, ap, ◌∙◌, arith, add-one, drop-cons}
 use mathlib.Core.List.{append_assoc, append-nil}
 use lib.ListN.{drop_of_length-le}
 use borrow.Author.Tests.{eq-eqb, ne_eqb}
@@ -20,9 +20,6 @@ pub record Absorbing (first : FrameRange) (others : List FrameRange) (area : Fra
   pub leaves : left first others ≡ ys ++ left area (drop k others)
 
 module _ (first : FrameRange) (others : List FrameRange) where
-  pub absorb_start : (rest : RangeList) → rest ≡ listed [] → Absorbing first others first rest 0
-  absorb_start rest e = record { ys = []; is = e; grows = refl; leaves = refl }
-
   module _ (area : FrameRange) (rest : RangeList) (k : ℕ) (a : Absorbing first others area rest k) where
     pub absorb_end : length others ≤ k → (area ≡ grown first others) × (rest ≡ listed (left first others))
     unfolding grown left
@@ -62,9 +59,6 @@ pub record Passing (rs : List FrameRange) (joined todo : RangeList) : Type 0 whe
   pub done : joined ≡ listed ds
   pub todo_whole : Whole todo
   pub whole : one_pass rs ≡ ds ++ one_pass (ranges_in todo)
-
-pub passing_start : (l : RangeList) → Whole l → (joined : RangeList) → joined ≡ listed [] → Passing (ranges_in l) joined l
-passing_start l w joined e = record { ds = []; done = e; todo_whole = w; whole = refl }
 
 module _ (rs : List FrameRange) (joined todo : RangeList) (p : Passing rs joined todo) where
   pub passing_end : ranges_in todo ≡ [] → joined ≡ listed (one_pass rs)

@@ -5,8 +5,8 @@ use native.Mathlib.Numerals.{add-one}
 use mathlib.Core.Path.{◌≡◌, refl, sym, ap, ◌∙◌}
 use mathlib.Core.Bool.{Bool, true, false, cond, ◌&&◌}
 use mathlib.Core.List.{List, [], ◌∷◌}
-use lib.ListN.{length, get_or, take, drop, drop_of_length-le, length-drop}
-use lib.Seq.{drop-cons, take_all}
+use lib.ListN.{length, get_or, drop, drop_of_length-le}
+use lib.Seq.{drop-cons}
 use lib.Dec.{leb, ltb}
 use borrow.Author.Tests.{ltb-true, leb-true, le-leb, lt-leb, lt-ltb, le-ltb}
 use Rattle.lines.specs.Words.{number, with_digit, with_byte, with_bytes, decimal_of}
@@ -65,10 +65,6 @@ decimal_stops bs n i so_far more other = sym (so_far ∙ rw (drop-cons bs i 0 mo
 pub decimal_ends : (bs : List ℕ) (n i : ℕ) → decimal_of bs ≡ with_bytes (Some n) (drop i bs) → length bs ≤ i → Some n ≡ decimal_of bs
 unfolding with_bytes
 decimal_ends bs n i so_far all = sym (so_far ∙ rw (drop_of_length-le bs all))
-
--- a part that reaches to the end
-pub to_end : (n : ℕ) (l : List ℕ) → take (length l - n) (drop n l) ≡ drop n l
-to_end n l = take_all (length l - n) (drop n l) (omega (arith, length-drop n l))
 
 -- ---- numbers in their places
 

@@ -34,7 +34,8 @@ pub enum Refusal {
     MeetsReservedRegion,
     // 17: "two chunks are not enough"
     TooShort,
-    // 18: "after the call a list would hold more than 32 (early) or 512 (sorted) entries"
+    // 18: "after the call a list would hold more than 32 (early) or 512 (sorted) entries; early growth also when either reserved list has
+    // 32 already"
     NoPlace,
     // 19: "a returned frame is free, or the range isn't wholly in regions of one kind"
     NotHeld,

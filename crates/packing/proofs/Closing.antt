@@ -1,5 +1,5 @@
 -- What is closed: the slots are written, or stay.
-use mathlib.Core.Path.{◌≡◌, sym, subst}
+use mathlib.Core.Path.{◌≡◌, sym, subst, ◌∙◌}
 use mathlib.Core.Bool.{Bool, true, false, ◌&&◌}
 use mathlib.Core.List.{List}
 use Prim.Native.Nat.{ℕ}
@@ -10,9 +10,10 @@ use Rattle.entries.specs.Whole.{part_at}
 use Rattle.entries.specs.declared.header.Header.{Header}
 use Rattle.packing.specs.Packed.{Unpackable, Closable, list_after, closed}
 
-pub to_unpack : {b : Bool} {ws : List ℕ} → b ≡ false → Closable b ws → Unpackable ws
+-- t is what the code's test says
+pub to_unpack : {t b : Bool} {ws : List ℕ} → t ≡ b → t ≡ false → Closable b ws → Unpackable ws
 unfolding Closable
-to_unpack {ws = ws} e u = subst (λ (b : Bool). Closable b ws) e u
+to_unpack {ws = ws} is e u = subst (λ (b : Bool). Closable b ws) (sym is ∙ e) u
 
 pub can_unpack : {b : Bool} {ws : List ℕ} → b ≡ false → Unpackable ws → Closable b ws
 unfolding Closable

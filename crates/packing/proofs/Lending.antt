@@ -1,5 +1,5 @@
 -- The entries of an allocator that stands open, by its form.
-use mathlib.Core.Path.{◌≡◌, refl, sym, ap, subst}
+use mathlib.Core.Path.{◌≡◌, refl, sym, subst}
 use mathlib.Core.Bool.{Bool, true, false, not}
 use mathlib.Core.List.{List}
 use Prim.Native.Nat.{ℕ}
@@ -11,14 +11,6 @@ use Rattle.entries.specs.declared.header.Answered.{Answered}
 use Rattle.packing.specs.Open.{lent, DoesOpen}
 
 module _ (h : Header) (es ws : List ℕ) where
-  pub lent_words : h.sorted ≡ true → lent h.sorted es ws ≡ ws
-  unfolding lent
-  lent_words e = ap (λ (b : Bool). lent b es ws) e
-
-  pub lent_slots : h.sorted ≡ false → lent h.sorted es ws ≡ es
-  unfolding lent
-  lent_slots e = ap (λ (b : Bool). lent b es ws) e
-
   pub ruled_words : h.sorted ≡ true → Ruled h (lent h.sorted es ws) → Ruled h ws
   unfolding lent
   ruled_words e u = subst (λ (b : Bool). Ruled h (lent b es ws)) e u

@@ -1,27 +1,24 @@
 -- The packing law, and what a call on a header and entries does to the record.
-use mathlib.Core.Path.{◌≡◌, refl, sym, ap, subst, ◌∙◌}
+use mathlib.Core.Path.{◌≡◌, sym, ap, subst, ◌∙◌}
 use mathlib.Core.Bool.{Bool, true, false, false≢true, ◌&&◌}
 use mathlib.Core.List.{List, [], ◌++◌, append-nil}
 use Prim.Native.Nat.{ℕ}
 use native.Mathlib.Omega.{arith}
 use lib.ListN.{length, length-append, drop_of_length-le, replicate}
+use Rattle.std.proofs.Math.Bool.{and-false}
 use Rattle.model.specs.Lists.{Lists, Slot, unused}
-use Rattle.model.specs.Rules.{rules}
 use Rattle.model.specs.Store.{load, record_of, words_of, words_in, slots_in, slots_of, slot_words, early_of, early_in, length_in}
 use Rattle.model.specs.declared.EarlyList.{EarlyList}
 use Rattle.model.specs.declared.FrameAllocator.{FrameAllocator}
 use Rattle.model.proofs.Lawful.{AllSound, Slots, Lawful}
-use Rattle.model.proofs.Ruled.{lawful_rules}
 use Rattle.model.proofs.Stored.{Kept, words_length}
 use Rattle.model.proofs.Whole.{Tested}
 use Rattle.pairs.specs.Pairs.{pair_slots, IsPairs}
-use Rattle.pairs.proofs.Slots.{pairs_of}
-use Rattle.entries.specs.declared.header.WhichList.{WhichList}
-use Rattle.entries.specs.declared.header.WhichList.TheVariants.{GeneralFree, ReservedFree, GeneralRegions, ReservedRegions}
+use Rattle.pairs.proofs.Pairs.{pairs_of}
 use Rattle.entries.specs.declared.header.Header.{Header}
-use Rattle.entries.specs.Part.{width, part_words, IsPart}
+use Rattle.entries.specs.Part.{width, part_words}
 use Rattle.entries.specs.Part as one
-use Rattle.entries.specs.Whole.{part_at, part_of, length_at, header, lists_in, header_of, entries_of, Ruled}
+use Rattle.entries.specs.Whole.{part_at, part_of, length_at, header, lists_in, header_of, entries_of}
 use Rattle.entries.proofs.Whole.{first_is, second_is, third_is, fourth_is}
 use Rattle.packing.specs.Packed.{packed, packed_lists, Unpackable, header_in, closed}
 use Rattle.packing.proofs.Turns.{pack_list}
@@ -40,16 +37,8 @@ size_of : (b : Bool) (s : List Slot) → b ≡ false → Slots b s → length s 
 size_of false s p h = h
 size_of true s p h = absurd (false≢true (sym p))
 
-pub and_false : (b : Bool) → (b && false) ≡ false
-and_false true = refl
-and_false false = refl
-
 abbrev early_header : Header
 early_header = header false 0 0 0 0
-
-early_header_holds : (l : Lists) → l.sorted ≡ false → header_of l ≡ early_header
-unfolding header_of length_in
-early_header_holds l e = rw e
 
 early_record : (l : Lists) → l.sorted ≡ false → record_of l ≡ record {
   sorted = false;
@@ -135,7 +124,7 @@ module _ (l : Lists) (a : Lawful l) (e : l.sorted ≡ false) where
   pub close_lists : (x : FrameAllocator) → closed x (header_of l) (packed_lists l) ≡ record_of l
   unfolding header_of length_in
   close_lists x =
-      slots_written x (header_of l) (packed_lists l) (ap (λ (b : Bool). x.sorted && b) e ∙ and_false x.sorted)
+      slots_written x (header_of l) (packed_lists l) (ap (λ (b : Bool). x.sorted && b) e ∙ and-false x.sorted)
       ∙ (λ i. record {
         sorted = e i;
         general_free = early_of (again₀ i);
@@ -152,20 +141,6 @@ module _ (l : Lists) (a : Lawful l) (e : l.sorted ≡ false) where
   pub lists_packed : lists_in early_header (packed_lists l) ≡ l
   unfolding lists_in one.slots_in width part_of length_at
   lists_packed = λ i. record { sorted = sym e i; general_free = again₀ i; reserved_free = again₁ i; general_regions = again₂ i; reserved_regions = again₃ i }
-
-  a_part : {w : List ℕ} → IsPairs w → IsPart false 0 w
-  unfolding width part_words one.slots_in length_in
-  a_part t = record { size = t.size; few = omega arith; stored = t.plain; len = refl }
-
-  pub ruled_packed : Ruled early_header (packed_lists l)
-  unfolding width part_of length_at
-  ruled_packed = record { long = omega (arith, packed_length); parts = go; keeps = ap rules lists_packed ∙ lawful_rules l a }
-    where
-      go : (w : WhichList) → IsPart false (length_at w early_header) (part_at 64 (part_of 64 w) (packed_lists l))
-      go GeneralFree = a_part unpackable.general_free
-      go ReservedFree = a_part unpackable.reserved_free
-      go GeneralRegions = a_part unpackable.general_regions
-      go ReservedRegions = a_part unpackable.reserved_regions
 
   -- what a call leaves in 256 words of entries
   pub entries_packed : (ws : List ℕ) → length ws ≡ 256 → entries_of l ws ≡ packed_lists l

@@ -19,9 +19,9 @@ use Rattle.model.specs.Store.{range_in, is_used, early_of, slots_of, slot_words}
 use Rattle.model.specs.declared.EarlyList.{EarlyList}
 use Rattle.model.proofs.Stored.{double}
 use Rattle.pairs.specs.Pairs.{pair_slot, pair_slots, IsPairs}
-use Rattle.pairs.proofs.Slots.{pairs_length, pair_at_holds, range_at_holds, slot_range}
+use Rattle.pairs.proofs.Pairs.{pairs_length, pair_at_holds, range_at_holds, slot_range}
 use Rattle.model.specs.declared.FrameAllocator.{FrameAllocator}
-use Rattle.model.proofs.Early.{Arrays}
+use Rattle.model.specs.Store.{Arrays}
 use Rattle.packing.specs.Packed.{interleaved, packed}
 
 -- ---- packing
@@ -141,10 +141,8 @@ pairs_of e = interleaved e.starts e.ends
 pub pairs_64 : (e : EarlyList) → Arrays e → {p : List ℕ} → p ≡ pairs_of e → length p ≡ 64
 pairs_64 e n {p} h = ap length h ∙ interleaved_length e.starts e.ends (omega (arith, n.starts, n.ends)) ∙ omega (arith, n.starts)
 
-pub pack_all : (ws : List ℕ) → length ws ≡ 256 → (a : FrameAllocator) → Arrays a.general_free → Arrays a.reserved_free → Arrays a.general_regions → {p q r s : List ℕ}
+pub pack_all : (ws : List ℕ) → length ws ≡ 256 → (a : FrameAllocator) → {p q r s : List ℕ} → length p ≡ 64 → length q ≡ 64 → length r ≡ 64
     → p ≡ pairs_of a.general_free → q ≡ pairs_of a.reserved_free → r ≡ pairs_of a.general_regions → s ≡ pairs_of a.reserved_regions
     → put_mid 192 64 (put_mid 128 64 (put_mid 64 64 (put_mid 0 64 ws p) q) r) s ≡ packed a
 unfolding packed
-pack_all ws n a x y z {p} {q} {r} {s} ep eq er es =
-    put_four ws p q r s n (pairs_64 a.general_free x ep) (pairs_64 a.reserved_free y eq) (pairs_64 a.general_regions z er)
-    ∙ (λ i. ep i ++ (eq i ++ (er i ++ (es i ++ []))))
+pack_all ws n a {p} {q} {r} {s} np nq nr ep eq er es = put_four ws p q r s n np nq nr ∙ (λ i. ep i ++ (eq i ++ (er i ++ (es i ++ []))))

@@ -2,13 +2,11 @@
 use Rattle.std.specs.Prelude.{ℕ, ◌≤◌, ◌≡◌, Bool, true, false, ◌&&◌, List, [], ◌∷◌, ◌++◌, length}
 use Rattle.model.specs.Lists.{Lists}
 use Rattle.model.specs.Store.{early_of, slot_words}
-use Rattle.model.specs.declared.Called.{Called}
 use Rattle.model.specs.declared.EarlyList.{EarlyList}
 use Rattle.model.specs.declared.FrameAllocator.{FrameAllocator}
 use Rattle.pairs.specs.Pairs.{pair_slots, IsPairs}
 use Rattle.entries.specs.Whole.{part_at, header}
 use Rattle.entries.specs.declared.header.Header.{Header}
-use Rattle.entries.specs.declared.header.Answered.{Answered}
 
 -- ---- opened
 
@@ -72,6 +70,3 @@ closed a h ws = record {
   general_regions_len = h.general_regions;
   reserved_regions_len = h.reserved_regions;
 }
-
-abbrev pub closed_with : FrameAllocator → Answered → List ℕ → Called
-closed_with a d ws = record { answer = d.answer; allocator = closed a d.header ws }

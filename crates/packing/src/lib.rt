@@ -6,15 +6,14 @@ ghost use Rattle.std.specs.Prelude.{◌≡◌, ◌&&◌, length};
 ghost use Rattle.model.specs.Store.{early_of};
 ghost use Rattle.pairs.specs.Pairs.{pair_slots, IsPairs};
 ghost use Rattle.packing.specs.Open.{lent};
-ghost use Rattle.packing.specs.Packed.{interleaved, packed, header_in, Closable, closed_with, Apart};
+ghost use Rattle.packing.specs.Packed.{interleaved, packed, header_in, Closable, closed, Apart};
 
-use entries::{Answered, Header};
-use model::{Called, EarlyList, FrameAllocator};
+use entries::Header;
+use model::{EarlyList, FrameAllocator};
 
 // The header, and in early form the slots of the four lists, without a test.
-pub fn take_apart(a: FrameAllocator, slots: &mut [u64]) -> Header
-    requires { length slots.old ≡ 256 }
-    ensures { Apart a result slots.new }
+pub fn take_apart(a: &FrameAllocator, slots: &mut [u64; 256]) -> Header
+    ensures { Apart a.now result slots.new }
 {
     let header = header_of(a);
     if a.sorted {
@@ -25,8 +24,8 @@ pub fn take_apart(a: FrameAllocator, slots: &mut [u64]) -> Header
 }
 
 // The form, and each table's length.
-fn header_of(a: FrameAllocator) -> Header
-    ensures { result ≡ header_in a }
+fn header_of(a: &FrameAllocator) -> Header
+    ensures { result ≡ header_in a.now }
 {
     Header {
         sorted: a.sorted,
@@ -37,10 +36,9 @@ fn header_of(a: FrameAllocator) -> Header
     }
 }
 
-// The four lists of a record in early form.
-fn pack(a: FrameAllocator, entries: &mut [u64])
-    requires { length entries.old ≡ 256 }
-    ensures { entries.new ≡ packed a }
+// The four lists of a record in early form: fields of a `repr(C)` record, so there is a line for each.
+fn pack(a: &FrameAllocator, entries: &mut [u64; 256])
+    ensures { entries.new ≡ packed a.now }
 {
     pack_list(&a.general_free, &mut entries[0..64]);
     pack_list(&a.reserved_free, &mut entries[64..128]);
@@ -51,7 +49,8 @@ fn pack(a: FrameAllocator, entries: &mut [u64])
 // Starts and ends, pair by pair.
 fn pack_list(list: &EarlyList, t: &mut [u64])
     requires { length t.old ≡ 64 }
-    ensures { t.new ≡ interleaved list.now.starts list.now.ends }
+    ensures words { t.new ≡ interleaved list.now.starts list.now.ends }
+    ensures size { length t.new ≡ 64 }
 {
     for i in 0..32 {
         t[2 * i] = list.starts[i];
@@ -67,31 +66,25 @@ pub fn entries_of<'a>(h: Header, slots: &'a [u64], words: &'a [u64]) -> &'a [u64
     if h.sorted { words } else { slots }
 }
 
-// What the calls left, in the record: the header and, unless the record was in sorted form and still is, the slots. They are written where
-// the record is handed back, so that no list is copied.
-pub fn close(a: FrameAllocator, done: Answered, slots: &[u64]) -> Called
-    requires { Closable (a.sorted && done.header.sorted) slots.now }
-    ensures { result ≡ closed_with a done slots.now }
+// What the calls left, in the record: the header and, unless the record was in sorted form and still is, the slots. The four lists are
+// fields of a `repr(C)` record, so there is a line for each.
+pub fn close(a: &mut FrameAllocator, h: Header, slots: &[u64])
+    requires { Closable (a.old.sorted && h.sorted) slots.now }
+    ensures { a.new ≡ closed a.old h slots.now }
 {
-    let answer = done.answer;
-    let h = done.header;
-    let mut called = Called {
-        answer,
-        allocator: a,
-    };
-    called.allocator.sorted = h.sorted;
-    called.allocator.general_free_len = h.general_free;
-    called.allocator.reserved_free_len = h.reserved_free;
-    called.allocator.general_regions_len = h.general_regions;
-    called.allocator.reserved_regions_len = h.reserved_regions;
-    if stays_sorted(a.sorted, h.sorted) {
-        return called;
+    let sorted = stays_sorted(a.sorted, h.sorted);
+    a.sorted = h.sorted;
+    a.general_free_len = h.general_free;
+    a.reserved_free_len = h.reserved_free;
+    a.general_regions_len = h.general_regions;
+    a.reserved_regions_len = h.reserved_regions;
+    if sorted {
+        return;
     }
-    unpack_list(&mut called.allocator.general_free, &slots[0..64]);
-    unpack_list(&mut called.allocator.reserved_free, &slots[64..128]);
-    unpack_list(&mut called.allocator.general_regions, &slots[128..192]);
-    unpack_list(&mut called.allocator.reserved_regions, &slots[192..256]);
-    called
+    unpack_list(&mut a.general_free, &slots[0..64]);
+    unpack_list(&mut a.reserved_free, &slots[64..128]);
+    unpack_list(&mut a.general_regions, &slots[128..192]);
+    unpack_list(&mut a.reserved_regions, &slots[192..256]);
 }
 
 // "in sorted form every early slot is unused": where the form was and is sorted, the record's slots are as they are to be.

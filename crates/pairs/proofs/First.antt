@@ -16,21 +16,11 @@ use Rattle.std.specs.Prelude.{None, Some}
 use Rattle.memory_structs.specs.declared.range.FrameRange.{FrameRange}
 use Rattle.pairs.specs.Searches.{first_slot, first_unused, passes}
 
-abbrev pub is_unused : Slot → Bool
-is_unused unused = true
-is_unused (used r) = false
-
 pub where_is : (p : FrameRange → Bool) (s : List Slot) → first_where p s ≡ first_slot (passes p) s
 unfolding first_where first_slot
 where_is p [] = refl
 where_is p (unused ∷ s) = ap later (where_is p s)
 where_is p (used r ∷ s) = ap (λ (q : Option ℕ). if p r then Some 0 else later q) (where_is p s)
-
-pub unused_is : (s : List Slot) → first_unused s ≡ first_slot is_unused s
-unfolding first_unused first_slot
-unused_is [] = refl
-unused_is (unused ∷ s) = refl
-unused_is (used r ∷ s) = ap later (unused_is s)
 
 -- a place found i slots further on
 unfoldable pub onward : ℕ → Option ℕ → Option ℕ
@@ -82,7 +72,7 @@ later_nowhere None e = refl
 later_nowhere (Some j) e = absurd (let z : ◌≡◌ {A = ℕ} 0 1 = cc in omega arith)
 
 pub insert_at_holds : (r : FrameRange) (s : List Slot) (i : ℕ) → first_unused s ≡ Some i → insert_early r s ≡ set s i (used r)
-unfolding first_unused insert_early
+unfolding first_slot insert_early
 insert_at_holds r [] i e = refl
 insert_at_holds r (unused ∷ s) zero e = refl
 insert_at_holds r (unused ∷ s) (suc i) e = absurd (let z : 0 ≡ suc i = cc in omega arith)
@@ -90,13 +80,13 @@ insert_at_holds r (used x ∷ s) zero e = absurd (later_zero (first_unused s) e)
 insert_at_holds r (used x ∷ s) (suc i) e = ap (λ (l : List Slot). used x ∷ l) (insert_at_holds r s i (later_at (first_unused s) i e))
 
 pub insert_full : (r : FrameRange) (s : List Slot) → first_unused s ≡ None → insert_early r s ≡ s
-unfolding first_unused insert_early
+unfolding first_slot insert_early
 insert_full r [] e = refl
 insert_full r (unused ∷ s) e = absurd (let z : ◌≡◌ {A = ℕ} 0 1 = cc in omega arith)
 insert_full r (used x ∷ s) e = ap (λ (l : List Slot). used x ∷ l) (insert_full r s (later_nowhere (first_unused s) e))
 
 pub unused_bound : (s : List Slot) (i : ℕ) → first_unused s ≡ Some i → i < length s
-unfolding first_unused
+unfolding first_slot
 unused_bound [] i e = absurd (let z : ◌≡◌ {A = ℕ} 0 1 = cc in omega arith)
 unused_bound (unused ∷ s) i e = let z : 0 ≡ i = cc in omega arith
 unused_bound (used x ∷ s) zero e = absurd (later_zero (first_unused s) e)

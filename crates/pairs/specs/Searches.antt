@@ -1,5 +1,5 @@
 -- Searches over slots from the first on.
-use Rattle.std.specs.Prelude.{ℕ, ◌≡◌, ◌<◌, ◌^◌, Bool, false, List, [], ◌∷◌, Option, Some, None}
+use Rattle.std.specs.Prelude.{ℕ, ◌≡◌, ◌<◌, ◌^◌, Bool, true, false, List, [], ◌∷◌, Option, Some, None}
 use Rattle.std.specs.Prelude.{if◌then◌else◌}
 use Rattle.memory_structs.specs.declared.range.FrameRange.{FrameRange}
 use Rattle.model.specs.Lists.{Slot, unused, used, later}
@@ -15,11 +15,13 @@ abbrev pub passes : (FrameRange → Bool) → Slot → Bool
 passes p unused = false
 passes p (used r) = p r
 
+abbrev pub is_unused : Slot → Bool
+is_unused unused = true
+is_unused (used r) = false
+
 -- where the first slot that is not used stands
-unfoldable pub first_unused : List Slot → Option ℕ
-first_unused [] = None
-first_unused (unused ∷ s) = Some 0
-first_unused (used r ∷ s) = later (first_unused s)
+abbrev pub first_unused : List Slot → Option ℕ
+first_unused s = first_slot is_unused s
 
 -- a test in code says of a pair of words what p says of its slot
 abbrev pub Tests : (FrameRange → Bool → Type 0) → (Slot → Bool) → Type 0

@@ -18,7 +18,7 @@ pub fn kind_of_range(a: FrameAllocator, words: &[u64], range: FrameRange) -> Ans
     ensures { Answers (kind_call range) a words.now result }
 {
     let mut slots = [0u64; 256];
-    let opened = rules::open(a, words, &mut slots);
+    let opened = rules::open(&a, words, &mut slots);
     if let Err(refusal) = opened.tested {
         return Answer::from(refusal);
     }
@@ -30,7 +30,7 @@ pub fn free_total(a: FrameAllocator, words: &[u64], kind: Kind) -> Answer
     ensures { Answers (total_call kind) a words.now result }
 {
     let mut slots = [0u64; 256];
-    let opened = rules::open(a, words, &mut slots);
+    let opened = rules::open(&a, words, &mut slots);
     if let Err(refusal) = opened.tested {
         return Answer::from(refusal);
     }
@@ -46,7 +46,7 @@ pub fn held_list(a: FrameAllocator, words: &[u64], buffer: &mut [u64]) -> Answer
         return Answer::from(Refusal::TooFewWords);
     }
     let mut slots = [0u64; 256];
-    let opened = rules::open(a, words, &mut slots);
+    let opened = rules::open(&a, words, &mut slots);
     if let Err(refusal) = opened.tested {
         return Answer::from(refusal);
     }

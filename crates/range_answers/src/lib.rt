@@ -8,7 +8,7 @@ ghost use Rattle.range_answers.specs.Words.{Written, unit_words, number_words, r
 
 use memory_structs::{FrameRange, Halves, OutOfBounds, SplitFrames};
 
-// Document 01's number for what is out of bounds.
+// Document 01's number for what is out of bounds: the one refusal that the calls on ranges have. `model` has every number.
 const OUT_OF_BOUNDS: u64 = 2;
 
 // A value that an answer may show; with the word before it that says whether there is one, it takes N words.

@@ -75,6 +75,7 @@ fn early(out: &mut impl Write, a: &FrameAllocator) -> io::Result<()> {
     slots(out, &a.reserved_regions)
 }
 
+// Of any record, a broken one too, so that no `Table` can be made of it.
 fn pairs(out: &mut impl Write, t: &[u64], len: usize) -> io::Result<()> {
     for pair in t.chunks_exact(2).take(len) {
         entry(out, pair[0], pair[1])?;

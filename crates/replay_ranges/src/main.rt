@@ -99,16 +99,18 @@ fn print<T: Shows<N>, const N: usize>(
 ) -> io::Result<()>
     requires fits { N * 8 < 2 ^ 63 }
 {
+    let (found, value) = match answer {
+        Err(OutOfBounds) => return writeln!(out, "refused 2"),
+        Ok(None) => (false, T::NONE),
+        Ok(Some(value)) => (true, value),
+    };
     let mut words = [0; N];
-    let refusal = range_answers::put(answer, &mut words);
-    if refusal != 0 {
-        return writeln!(out, "refused {refusal}");
-    }
-    if let [found, value @ ..] = words.as_slice() {
-        write!(out, "{}", if *found == 1 { "yes" } else { "no" })?;
-        for word in value {
-            write!(out, " {word}")?;
-        }
+    value.put(found, &mut words);
+    let said = if found { "yes" } else { "no" };
+    write!(out, "{said}")?;
+    // The first word says the same.
+    for word in words.iter().skip(1) {
+        write!(out, " {word}")?;
     }
     writeln!(out)
 }

@@ -20,9 +20,7 @@ use Rattle.model.proofs.Growth.{used_below}
 use Rattle.model.proofs.Lawful.{low_at}
 use Rattle.model.proofs.Ruled.{tidy_is}
 use Rattle.request_grants.specs.Grants.{Chooses}
-use Rattle.request_search.specs.Searches.{found_of}
 use Rattle.request_search.specs.declared.Chosen.{Chosen}
-use Rattle.request_search.specs.declared.Search.TheVariants.{Chunks}
 
 abbrev pub chosen : ℕ → ℕ → FrameRange → Chosen
 chosen i k c = record { first = i; many = k; range = c }
@@ -93,12 +91,6 @@ pub search_chooses : (sorted : Bool) (s : List Slot) (c : Chosen) (asked : Frame
     → find sorted asked s ≡ chunks c.first c.many c.range → Chooses sorted s c asked
 unfolding Choice
 search_chooses sorted s c asked h e = subst (Choice sorted asked s) e (find_choice asked s h sorted)
-
--- the same, of the search's own answer
-pub found_chooses : (sorted : Bool) (s : List Slot) (c : Chosen) (asked : FrameRange) → asked.start ≤ asked.end
-    → found_of (Chunks c) ≡ find sorted asked s → Chooses sorted s c asked
-unfolding found_of
-found_chooses sorted s c asked h e = search_chooses sorted s c asked h (sym e)
 
 -- a chunk that is large enough for a count
 large_hit : (sorted : Bool) (n : ℕ) (s : List Slot) → Hit (λ c. leb n (size c)) s (large_enough sorted n s)

@@ -7,17 +7,17 @@ use Rattle.std.specs.Prelude.{None, Some}
 use Rattle.memory_structs.specs.declared.range.FrameRange.{FrameRange}
 use Rattle.model.specs.Lists.{bound}
 use Rattle.entries.specs.declared.Part.{Part}
-use Rattle.entries.specs.Part.{slots_of, Stored}
+use Rattle.entries.specs.Part.{part_slots, Stored}
 use Rattle.request_search.specs.declared.Chosen.{Chosen}
 use Rattle.request_grants.specs.Grants.{grant_of, entries_left, TakesOut}
 
 module _ (p : Part) (c : Chosen) (asked : FrameRange) (ws : List ℕ) where
   abbrev left : ℕ
-  left = entries_left p.sorted c asked (slots_of p ws)
+  left = entries_left p.sorted c asked (part_slots p ws)
 
-  pub without_place : bound p.sorted < left → TakesOut p.sorted c asked (slots_of p ws) ws None ws
+  pub without_place : bound p.sorted < left → TakesOut p.sorted c asked (part_slots p ws) ws None ws
   without_place h = (lt-ltb (bound p.sorted) left h, refl)
 
-  pub with_place : left ≤ bound p.sorted → {m : ℕ} {after : List ℕ} → Stored p.sorted (grant_of p.sorted c asked (slots_of p ws)) m after
-      → TakesOut p.sorted c asked (slots_of p ws) ws (Some m) after
+  pub with_place : left ≤ bound p.sorted → {m : ℕ} {after : List ℕ} → Stored p.sorted (grant_of p.sorted c asked (part_slots p ws)) m after
+      → TakesOut p.sorted c asked (part_slots p ws) ws (Some m) after
   with_place h st = (le-ltb (bound p.sorted) left h, st)

@@ -12,7 +12,7 @@ use Rattle.model.specs.Rules.{rising, slotted, tidy}
 use Rattle.model.specs.Store.{table_slots, table_words}
 use Rattle.model.proofs.Stored.{table_length, table_used, table_again}
 use Rattle.tables.specs.Words.{IsTable}
-use Rattle.tables.proofs.Table.{is_table}
+use Rattle.tables.proofs.Stores.{is_table}
 use Rattle.tables.proofs.Spaced.{tidy_spaced}
 use Rattle.tables.proofs.Touching.{tidy_rising}
 use Rattle.entries.proofs.Forms.{length_removed, length_replaced}

@@ -16,7 +16,7 @@ use Rattle.model.specs.Store.{slot_words}
 use Rattle.model.proofs.Lawful.{Shape, insert_shape, remove_shape, low_at}
 use Rattle.model.proofs.Ruled.{tidy_is}
 use Rattle.pairs.specs.Pairs.{pair_slots, IsPairs}
-use Rattle.pairs.proofs.Slots.{slots_again, are_pairs}
+use Rattle.pairs.proofs.Pairs.{slots_again, are_pairs}
 use Rattle.request_search.specs.declared.Chosen.{Chosen}
 use Rattle.request_grants.specs.Grants.{Chooses, grant_of}
 

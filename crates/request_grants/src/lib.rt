@@ -10,7 +10,7 @@ ghost use Rattle.model.specs.Rules.{tidy};
 ghost use Rattle.model.specs.Store.{table_slots, slot_words};
 ghost use Rattle.tables.specs.Words.{IsTable};
 ghost use Rattle.pairs.specs.Pairs.{pair_slots, IsPairs};
-ghost use Rattle.entries.specs.Part.{slots_of, Holds, IsTidy, Stored};
+ghost use Rattle.entries.specs.Part.{part_slots, Holds, IsTidy, Stored};
 ghost use Rattle.request_grants.specs.Grants.{Chooses, grant_of, entries_left, TakesOut, instead, TableOf};
 
 use entries::Part;
@@ -19,10 +19,11 @@ use request_search::Chosen;
 
 // The frames of `asked` leave the chunks that hold them; the answer is the list's length after that. What is left over has no place, and
 // the list stays as it is, where "after the call a list would hold more than 32 (early) or 512 (sorted) entries".
+#[tactic(auto, using(crate::proofs::Placed::without_place, crate::proofs::Placed::with_place))]
 pub fn take(part: Part, t: &mut [u64], chosen: Chosen, asked: FrameRange) -> Option<usize>
     requires tidy { IsTidy part t.old }
-    requires chooses { Chooses part.sorted (slots_of part t.old) chosen asked }
-    ensures { TakesOut part.sorted chosen asked (slots_of part t.old) t.old result t.new }
+    requires chooses { Chooses part.sorted (part_slots part t.old) chosen asked }
+    ensures { TakesOut part.sorted chosen asked (part_slots part t.old) t.old result t.new }
 {
     if part.bound() < entries_after(part, t, chosen, asked) {
         return None;
@@ -31,10 +32,11 @@ pub fn take(part: Part, t: &mut [u64], chosen: Chosen, asked: FrameRange) -> Opt
 }
 
 // How many entries the list has after the grant.
+#[tactic(auto, using(entries::proofs::Forms::part_storable, crate::proofs::Entries::leftover, crate::proofs::Entries::one_leftover, crate::proofs::Entries::no_leftover, crate::proofs::Entries::leftover_bound, crate::proofs::Entries::taken_out, crate::proofs::Entries::left_is, crate::proofs::Kept::few_entries))]
 fn entries_after(part: Part, t: &[u64], chosen: Chosen, asked: FrameRange) -> usize
     requires part { Holds part t.now }
-    requires chooses { Chooses part.sorted (slots_of part t.now) chosen asked }
-    ensures { result ≡ entries_left part.sorted chosen asked (slots_of part t.now) }
+    requires chooses { Chooses part.sorted (part_slots part t.now) chosen asked }
+    ensures { result ≡ entries_left part.sorted chosen asked (part_slots part t.now) }
 {
     let mut n = part.count(t) - chosen.many;
     if chosen.range.start != asked.start {
@@ -54,9 +56,9 @@ pub fn allocate_from_chosen_chunk(
     asked: FrameRange,
 ) -> usize
     requires tidy { IsTidy part t.old }
-    requires chooses { Chooses part.sorted (slots_of part t.old) chosen asked }
-    requires t_bound { entries_left part.sorted chosen asked (slots_of part t.old) ≤ bound part.sorted }
-    ensures { Stored part.sorted (grant_of part.sorted chosen asked (slots_of part t.old)) result t.new }
+    requires chooses { Chooses part.sorted (part_slots part t.old) chosen asked }
+    requires t_bound { entries_left part.sorted chosen asked (part_slots part t.old) ≤ bound part.sorted }
+    ensures { Stored part.sorted (grant_of part.sorted chosen asked (part_slots part t.old)) result t.new }
 {
     if part.sorted {
         return allocate_from_table(t, part.len, chosen, asked);
@@ -78,6 +80,7 @@ fn allocate_from_slots(t: &mut [u64], chosen: Chosen, asked: FrameRange)
 }
 
 // The part before goes in, where there is one.
+#[tactic(auto, using(crate::proofs::Grant::some_before, crate::proofs::Grant::none_before), unfolding(model::specs::Lists::insert))]
 fn put_before(t: &mut [u64], chosen: Chosen, asked: FrameRange)
     requires { IsPairs t.old }
     ensures { t.new ≡ slot_words (put_before false chosen.range asked (pair_slots 32 t.old)) }
@@ -95,6 +98,7 @@ fn put_before(t: &mut [u64], chosen: Chosen, asked: FrameRange)
 }
 
 // The same of the part after.
+#[tactic(auto, using(crate::proofs::Grant::some_after, crate::proofs::Grant::none_after), unfolding(model::specs::Lists::insert))]
 fn put_after(t: &mut [u64], chosen: Chosen, asked: FrameRange)
     requires { IsPairs t.old }
     ensures { t.new ≡ slot_words (put_after false chosen.range asked (pair_slots 32 t.old)) }
@@ -112,6 +116,7 @@ fn put_after(t: &mut [u64], chosen: Chosen, asked: FrameRange)
 }
 
 // The leftovers take the place of the chosen pairs, and the pairs above move once at most. The answer is the length after that.
+#[tactic(auto, using(model::proofs::Stored::table_length, tables::proofs::Spaced::tidy_spaced, crate::proofs::Entries::room_for_two, crate::proofs::Grant::grant_none, crate::proofs::Grant::grant_before, crate::proofs::Grant::grant_after, crate::proofs::Grant::grant_both, crate::proofs::Rewritten::all_removed, crate::proofs::Rewritten::left_instead))]
 pub fn allocate_from_table(t: &mut [u64], len: usize, chosen: Chosen, asked: FrameRange) -> usize
     requires table { IsTable len t.old }
     requires t_value { tidy true (table_slots len t.old) ≡ true }

@@ -19,7 +19,7 @@ use Rattle.entries.specs.declared.header.Header.{Header}
 use Rattle.entries.specs.declared.header.WhichList.{WhichList}
 use Rattle.entries.specs.declared.header.WhichList.TheVariants.{ReservedFree, ReservedRegions}
 use Rattle.entries.specs.declared.Part.{Part}
-use Rattle.entries.specs.Part.{Stored, width, slots_of}
+use Rattle.entries.specs.Part.{Stored, width, part_slots}
 use Rattle.entries.specs.Whole.{part_of, part_in, with_length, lists_in, slots_at, with_slots, answered_by, Ruled, Does}
 use Rattle.entries.proofs.Whole.{tidy_list, lent_from, does_refuse}
 use Rattle.request_search.proofs.Grown.{whole_grown}
@@ -146,7 +146,7 @@ tidy_slotted b s t = is_slotted b s (tidy_is b s t).shape.slots
 -- what an operation makes of the lent part of a list stands in the header and the entries
 pub lent_changed : (f : Bool → List Slot → List Slot) (h : Header) (ws : List ℕ) (u : Ruled h ws) (w : WhichList) {p : Part} {from to : ℕ}
     → p ≡ part_in w h → from ≡ part_of (width h.sorted) w → to ≡ part_of (width h.sorted) w + width h.sorted → {m : ℕ} {after : List ℕ}
-    → Stored p.sorted (f p.sorted (slots_of p (take (to - from) (drop from ws)))) m after
+    → Stored p.sorted (f p.sorted (part_slots p (take (to - from) (drop from ws)))) m after
     → AllStored (with_slots w (lists_in h ws) (f h.sorted (slots_at w (lists_in h ws)))) ws (with_length w h m) (put_mid from (to - from) ws after)
 lent_changed f h ws u w q e t {m = m} {after = after} st =
     lent_stored h ws u w e t (f h.sorted (slots_at w (lists_in h ws))) m after (lent_from h ws u w q e t (λ b s. Stored b (f b s) m after) st)

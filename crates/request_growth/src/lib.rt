@@ -60,6 +60,7 @@ pub fn grow_tail(
 }
 
 // Whether the part may become a region: "If that part meets a general region: 13. If it meets a reserved region: 16", and 18.
+#[tactic(auto, using(crate::proofs::Growing::thirteen, crate::proofs::Growing::sixteen, crate::proofs::Growing::eighteen, crate::proofs::Growing::no_refusal), unfolding(entries::specs::Whole::slots_at))]
 fn check_growth(h: Header, lists: &[u64], part: FrameRange) -> Result<(), Refusal>
     requires ruled { Ruled h lists.now }
     requires start_le_end { part.start ≤ part.end }
@@ -78,6 +79,7 @@ fn check_growth(h: Header, lists: &[u64], part: FrameRange) -> Result<(), Refusa
 }
 
 // 18: the reserved regions are full, "early growth also when either reserved list has 32 already".
+#[tactic(auto, using(crate::proofs::Growing::full_regions, crate::proofs::Growing::room_sorted, crate::proofs::Growing::room_early), unfolding(entries::specs::Whole::lists_in, entries::specs::Whole::slots_at))]
 fn no_room_to_grow(h: Header, lists: &[u64]) -> bool
     requires { Ruled h lists.now }
     ensures { result ≡ no_room_to_grow (lists_in h lists.now) }
@@ -94,6 +96,7 @@ fn no_room_to_grow(h: Header, lists: &[u64]) -> bool
 }
 
 // How many entries the list has.
+#[tactic(auto, using(entries::proofs::Whole::lent_fits, entries::proofs::Whole::lent_part, entries::proofs::Whole::lent_slots))]
 fn count_in(h: Header, lists: &[u64], which: WhichList) -> usize
     requires { Ruled h lists.now }
     ensures { result ≡ length (model.entries (slots_at which (lists_in h lists.now))) }
@@ -102,6 +105,7 @@ fn count_in(h: Header, lists: &[u64], which: WhichList) -> usize
 }
 
 // The reserved chunk at i, chosen.
+#[tactic(auto, using(entries::proofs::Whole::lent_fits, entries::proofs::Whole::lent_part, entries::proofs::Whole::lent_slots))]
 fn chunk_at(h: Header, lists: &[u64], i: usize) -> Chosen
     requires ruled { Ruled h lists.now }
     requires i_in_bounds { i < length (slots_at ReservedFree (lists_in h lists.now)) }

@@ -9,9 +9,12 @@ use Rattle.memory_structs.specs.declared.range.FrameRange.{FrameRange}
 use Rattle.model.specs.Lists.{Slot, first_where, range_at}
 use Rattle.std.specs.Prelude.{Option}
 use Rattle.std.specs.Prelude.{None, Some}
-use Rattle.model.specs.Requests.{not_found, chunks, find, in_early}
+use Rattle.std.specs.Prelude.{Err}
+use Rattle.model.specs.Requests.{chunks, find, in_early}
+use Rattle.model.specs.declared.refusals.Refusal.TheVariants.{NotFound}
 use Rattle.model.proofs.Cover.{Hit, first_hit}
 use Rattle.model.proofs.Growth.{used_below}
+use Rattle.request_search.specs.Searches.{answer_of}
 
 module _ (r : FrameRange) (s : List Slot) where
   -- a place that a search answers is one of the list's
@@ -19,14 +22,14 @@ module _ (r : FrameRange) (s : List Slot) where
   unfolding Hit
   first_bound i e = used_below s i (subst (Hit (λ c. inside c r) s) (sym e) (first_hit (λ c. inside c r) s)).1
 
-  placed : (q : Option ℕ) → q ≡ first_where (λ c. inside c r) s → in_early s q ≡ find false r s
+  placed : (q : Option ℕ) → q ≡ first_where (λ c. inside c r) s → answer_of (in_early s q) ≡ answer_of (find false r s)
   unfolding find
-  placed q h = ap (in_early s) h
+  placed q h = ap (λ (o : Option ℕ). answer_of (in_early s o)) h
 
-  pub slot_holds : (i : ℕ) → Some i ≡ first_where (λ c. inside c r) s → chunks i 1 (range_at s i) ≡ find false r s
+  pub slot_holds : (i : ℕ) → Some i ≡ first_where (λ c. inside c r) s → answer_of (chunks i 1 (range_at s i)) ≡ answer_of (find false r s)
   unfolding in_early
   slot_holds i h = placed (Some i) h
 
-  pub none_holds : None ≡ first_where (λ c. inside c r) s → not_found ≡ find false r s
-  unfolding in_early
+  pub none_holds : None ≡ first_where (λ c. inside c r) s → Err NotFound ≡ answer_of (find false r s)
+  unfolding in_early answer_of
   none_holds h = placed None h

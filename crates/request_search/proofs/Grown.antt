@@ -11,7 +11,8 @@ use borrow.Author.Tests.{ltb-true, leb-true, le-leb, lt-leb, le-ltb, eq-eqb}
 use Rattle.std.specs.Prelude.{if◌then◌else◌}
 use Rattle.memory_structs.specs.Range.{range, inside}
 use Rattle.memory_structs.specs.declared.range.FrameRange.{FrameRange}
-use Rattle.memory_structs.proofs.Bools.{both, if_cases}
+use Rattle.std.proofs.lemmas.Bool.{and_from}
+use Rattle.memory_structs.proofs.Bools.{if_cases}
 use Rattle.model.specs.Lists.{Slot, unused, used, entries, first_where, last_where, later, or_else, range_at, insert, insert_early, insert_sorted, remove, remove_one, replace_at, bound}
 use Rattle.std.specs.Prelude.{Option}
 use Rattle.std.specs.Prelude.{None, Some}
@@ -122,7 +123,7 @@ whole_grown true r s t room h e =
 whole_grown false r s t room h e =
     let a = tidy_is false s t in
     early_grown r s h a.few (first_where (λ c. inside c r) (insert_early r s)) refl
-    (early_stands (λ c. inside c r) r (both (leb r.start r.start) (leb r.end r.end) (le-leb r.start r.start (omega arith)) (le-leb r.end r.end (omega arith)))
+    (early_stands (λ c. inside c r) r (and_from (leb r.start r.start) (leb r.end r.end) (le-leb r.start r.start (omega arith)) (le-leb r.end r.end (omega arith)))
     s (omega (arith, room refl, a.shape.slots)) (none_inside s (first_where (λ c. inside c r) s) e))
 
 -- the slots without what went in above the last of them, which stands at i

@@ -2,16 +2,18 @@
 // `find_specific_chunk`). The list is in either form, in its own part of the lent entries.
 #![tactic(auto)]
 
-ghost use Rattle.std.specs.Prelude.{◌≡◌, true, suc, ◌*◌, ◌≤◌, ◌<◌, length, Some};
+ghost use Rattle.std.specs.Prelude.{◌≡◌, true, suc, ◌≤◌, ◌<◌, Some};
 ghost use Rattle.model.specs.Lists.{range_at};
 ghost use Rattle.model.specs.Rules.{rising};
-ghost use Rattle.model.specs.Store.{table_slots};
+ghost use Rattle.tables.specs.Slots.{slots};
 ghost use Rattle.model.specs.Requests as model;
-ghost use Rattle.entries.specs.Part.{slots_of, IsTidy};
-ghost use Rattle.request_search.specs.Searches.{found_of};
+ghost use Rattle.entries.specs.Part.{part_slots, IsTidy};
+ghost use Rattle.request_search.specs.Searches.{answer_of};
 
 use entries::Part;
 use memory_structs::FrameRange;
+use model::Refusal;
+use tables::Table;
 
 // Chunks in a row that hold a request: from which slot on, how many, and the range that they make up.
 #[derive(Clone, Copy)]
@@ -21,82 +23,74 @@ pub struct Chosen {
     pub range: FrameRange,
 }
 
-// What a search by address finds in one list. No `Result`: every caller acts on each of the four, and hands none on as it is.
-#[derive(Clone, Copy)]
-pub enum Search {
-    NotFound,
-    // "*missing* (first absent frame, how many absent)"
-    Missing { frame: u64, count: u64 },
-    // Two chunks are not enough, refusal 17.
-    TooShort,
-    Chunks(Chosen),
-}
-
 // The chunks that hold every frame that is asked for, or why there are none.
-pub fn find_specific_chunk(part: Part, t: &[u64], asked: FrameRange) -> Search
+#[tactic(auto, using(tables::proofs::Touching::tidy_rising))]
+pub fn find_specific_chunk(part: Part, t: &[u64], asked: FrameRange) -> Result<Chosen, Refusal>
     requires tidy { IsTidy part t.now }
     requires start_le_end { asked.start ≤ asked.end }
-    ensures { found_of result ≡ model.find part.sorted asked (slots_of part t.now) }
+    ensures { result ≡ answer_of (model.find part.sorted asked (part_slots part t.now)) }
 {
     if part.sorted {
-        return find_in_table(t, part.len, asked);
+        return find_in_table(part.table(t), asked);
     }
-    match pairs::first_holding(t, asked) {
-        Some(i) => one_chunk(i, tables::entry(t, i)),
-        None => Search::NotFound,
+    match part.slots(t).first_holding(asked) {
+        Some(i) => one_chunk(i, part.entry(t, i)),
+        None => Err(Refusal::NotFound),
     }
 }
 
 // The search in a table: by halving for the one chunk that can hold the first frame.
-fn find_in_table(t: &[u64], len: usize, asked: FrameRange) -> Search
-    requires len_in_bounds { 2 * len ≤ length t.now }
-    requires t_value { rising 0 (table_slots len t.now) ≡ true }
-    ensures { found_of result ≡ model.find true asked (table_slots len t.now) }
+#[tactic(auto, using(tables::proofs::Touching::pair_bound, crate::proofs::Table::found_in, crate::proofs::Table::nothing_below))]
+fn find_in_table(table: Table, asked: FrameRange) -> Result<Chosen, Refusal>
+    requires { rising 0 (slots table) ≡ true }
+    ensures { result ≡ answer_of (model.find true asked (slots table.entry)) }
 {
-    match tables::highest_at_or_below(t, len, asked.start) {
-        Some(i) => from_chunk(t, len, i, asked),
-        None => Search::NotFound,
+    match table.highest_at_or_below(asked.start) {
+        Some(i) => from_chunk(table, i, asked),
+        None => Err(Refusal::NotFound),
     }
 }
 
 // The pair at i is the highest that starts at or below the request.
-fn from_chunk(t: &[u64], len: usize, i: usize, asked: FrameRange) -> Search
-    requires { (2 * len ≤ length t.now) × (i < len) }
-    ensures { found_of result ≡ model.in_sorted asked (table_slots len t.now) (Some i) }
+#[tactic(auto, using(crate::proofs::Table::below, crate::proofs::Table::holds_all, crate::proofs::Table::holds_first))]
+fn from_chunk(table: Table, i: usize, asked: FrameRange) -> Result<Chosen, Refusal>
+    requires { i < table.len }
+    ensures { result ≡ answer_of (model.in_sorted asked (slots table.entry) (Some i)) }
 {
-    let chunk = tables::entry(t, i);
+    let chunk = table.entry(i);
     if chunk.end < asked.start {
-        return Search::NotFound;
+        return Err(Refusal::NotFound);
     }
     if asked.end <= chunk.end {
         return one_chunk(i, chunk);
     }
-    with_next(t, len, i, chunk, asked.end)
+    with_next(table, i, chunk, asked.end)
 }
 
 // The pair at i holds the first frame and not the last: only the pair after it can help.
-fn with_next(t: &[u64], len: usize, i: usize, chunk: FrameRange, end: u64) -> Search
-    requires len_in_bounds { (2 * len ≤ length t.now) × (i < len) }
+#[tactic(auto, using(crate::proofs::Table::none_next, crate::proofs::Table::gap_next, crate::proofs::Table::short_next, crate::proofs::Table::both_next))]
+fn with_next(table: Table, i: usize, chunk: FrameRange, end: u64) -> Result<Chosen, Refusal>
+    requires i_in_bounds { i < table.len }
     requires chunk_end_lt_end { chunk.end < end }
-    ensures { found_of result ≡ model.with_next (table_slots len t.now) i end chunk (range_at (table_slots len t.now) (suc i)) }
+    ensures { result ≡ answer_of (model.with_next (slots table.entry) i end chunk (range_at (slots table.entry) (suc i))) }
 {
     // The first frame that the pair at i lacks.
     let after = chunk.end + 1;
     let next = i + 1;
-    if len <= next {
-        return Search::Missing {
+    if table.len <= next {
+        return Err(Refusal::Missing {
             frame: after,
             count: end - chunk.end,
-        };
+        });
     }
-    let above = tables::entry(t, next);
+    let above = table.entry(next);
     if above.start != after {
-        return Search::NotFound;
+        return Err(Refusal::NotFound);
     }
     if above.end < end {
-        return Search::TooShort;
+        return Err(Refusal::TooShort);
     }
-    Search::Chunks(Chosen {
+    Ok(Chosen {
         first: i,
         many: 2,
         range: FrameRange {
@@ -107,10 +101,11 @@ fn with_next(t: &[u64], len: usize, i: usize, chunk: FrameRange, end: u64) -> Se
 }
 
 // One chunk holds all of the request.
-fn one_chunk(i: usize, chunk: FrameRange) -> Search
-    ensures { found_of result ≡ model.chunks i 1 chunk }
+#[tactic(auto, unfolding(crate::specs::Searches::answer_of))]
+fn one_chunk(i: usize, chunk: FrameRange) -> Result<Chosen, Refusal>
+    ensures { result ≡ answer_of (model.chunks i 1 chunk) }
 {
-    Search::Chunks(Chosen {
+    Ok(Chosen {
         first: i,
         many: 1,
         range: chunk,

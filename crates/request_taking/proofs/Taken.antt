@@ -14,7 +14,7 @@ use Rattle.entries.specs.declared.header.WhichList.{WhichList}
 use Rattle.entries.specs.declared.header.WhichList.TheVariants.{GeneralFree, ReservedFree}
 use Rattle.entries.specs.declared.header.Header.{Header}
 use Rattle.entries.specs.declared.header.Answered.{Answered}
-use Rattle.entries.specs.Part.{Stored, width, slots_of}
+use Rattle.entries.specs.Part.{Stored, width, part_slots}
 use Rattle.entries.specs.Whole.{part_of, part_in, with_length, lists_in, slots_at, with_slots, header_of, entries_of, Ruled, Does, answered_with}
 use Rattle.entries.proofs.Whole.{lent_as, lent_from, lent_back, same_part, does_refuse}
 use Rattle.request_search.specs.declared.Chosen.{Chosen}
@@ -67,10 +67,10 @@ module _ (h : Header) (ws : List ℕ) (u : Ruled h ws) (w : WhichList) (c : Chos
   abbrev slots : List Slot
   slots = slots_at w (lists_in h ws)
 
-  pub lent_chooses : Chooses h.sorted slots c asked → Chooses p.sorted (slots_of p lent) c asked
+  pub lent_chooses : Chooses h.sorted slots c asked → Chooses p.sorted (part_slots p lent) c asked
   lent_chooses = lent_as h ws u w q f t (λ b s. Chooses b s c asked)
 
-  module _ (r : Option ℕ) (after : List ℕ) (x : TakesOut p.sorted c asked (slots_of p lent) lent r after) where
+  module _ (r : Option ℕ) (after : List ℕ) (x : TakesOut p.sorted c asked (part_slots p lent) lent r after) where
     here : TakesOut h.sorted c asked slots lent r after
     here = lent_from h ws u w q f t (λ b s. TakesOut b c asked s lent r after) x
 

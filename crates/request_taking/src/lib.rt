@@ -5,25 +5,32 @@
 ghost use Rattle.std.specs.Prelude.{◌≡◌, ◌≤◌};
 ghost use Rattle.model.specs.Requests.{find};
 ghost use Rattle.entries.specs.Whole.{lists_in, slots_at, answered_by, Ruled, Does};
-ghost use Rattle.request_search.specs.Searches.{found_of};
+ghost use Rattle.request_search.specs.Searches.{answer_of};
 ghost use Rattle.request_grants.specs.Grants.{Chooses};
 ghost use Rattle.request_taking.specs.Takes.{one_chunk, taken, granted_with};
 
 use entries::{Answered, Header, WhichList};
 use memory_structs::FrameRange;
 use model::{Answer, Refusal};
-use request_search::{Chosen, Search};
+use request_search::Chosen;
 
 // The chunks of the list that hold every frame that is asked for, or why there are none.
-pub fn find_in(h: Header, lists: &[u64], which: WhichList, asked: FrameRange) -> Search
+#[tactic(auto, using(entries::proofs::Whole::lent_fits, entries::proofs::Whole::lent_slots, entries::proofs::Whole::lent_tidy))]
+pub fn find_in(
+    h: Header,
+    lists: &[u64],
+    which: WhichList,
+    asked: FrameRange,
+) -> Result<Chosen, Refusal>
     requires ruled { Ruled h lists.now }
     requires start_le_end { asked.start ≤ asked.end }
-    ensures { found_of result ≡ find h.sorted asked (slots_at which (lists_in h lists.now)) }
+    ensures { result ≡ answer_of (find h.sorted asked (slots_at which (lists_in h lists.now))) }
 {
     request_search::find_specific_chunk(h.part(which), &lists[h.words_of(which)], asked)
 }
 
 // The frames of `asked` are granted from the chunks that hold them; 18 where what is left over has no place.
+#[tactic(auto, using(entries::proofs::Whole::lent_fits, entries::proofs::Whole::lent_tidy, crate::proofs::Taken::lent_chooses, crate::proofs::Taken::does_not_take, crate::proofs::Taken::does_take))]
 pub fn take_in(
     h: Header,
     lists: &mut [u64],

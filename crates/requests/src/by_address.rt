@@ -9,7 +9,6 @@ use crate::by_count::frames_of;
 use entries::{Answered, Header, WhichList};
 use memory_structs::{ADDRESS_LIMIT, FRAME_SIZE, FrameRange};
 use model::Refusal;
-use request_search::Search;
 
 // "Address, whole: the reserved list first."
 pub fn frames_at(
@@ -23,12 +22,10 @@ pub fn frames_at(
 {
     let asked = asked_range(frame, num_frames)?;
     match request_taking::find_in(h, lists, WhichList::ReservedFree, asked) {
-        Search::NotFound => in_general_list(h, lists, asked),
-        Search::Missing { frame, .. } => request_growth::grow_tail(h, lists, frame, asked),
-        Search::TooShort => Err(Refusal::TooShort),
-        Search::Chunks(chosen) => {
-            request_taking::take_in(h, lists, WhichList::ReservedFree, chosen, asked)
-        }
+        Ok(chosen) => request_taking::take_in(h, lists, WhichList::ReservedFree, chosen, asked),
+        Err(Refusal::NotFound) => in_general_list(h, lists, asked),
+        Err(Refusal::Missing { frame, .. }) => request_growth::grow_tail(h, lists, frame, asked),
+        Err(refusal) => Err(refusal),
     }
 }
 
@@ -41,6 +38,7 @@ pub fn bytes_at(
     requires { Ruled h lists.old }
     ensures { Does (by_address_bytes address num_bytes (lists_in h lists.old)) lists.old (answered_by h result) lists.new }
 {
+    // The two limits alone: the end is tested after 1 (`asked_range`).
     if ADDRESS_LIMIT <= address {
         return Err(Refusal::OutOfBounds);
     }
@@ -70,14 +68,8 @@ pub fn general_frames_at(
     ensures { Does (by_address_general frame num_frames (lists_in h lists.old)) lists.old (answered_by h result) lists.new }
 {
     let asked = asked_range(frame, num_frames)?;
-    match request_taking::find_in(h, lists, WhichList::GeneralFree, asked) {
-        Search::NotFound => Err(Refusal::NotFound),
-        Search::Missing { frame, count } => Err(Refusal::Missing { frame, count }),
-        Search::TooShort => Err(Refusal::TooShort),
-        Search::Chunks(chosen) => {
-            request_taking::take_in(h, lists, WhichList::GeneralFree, chosen, asked)
-        }
-    }
+    let chosen = request_taking::find_in(h, lists, WhichList::GeneralFree, asked)?;
+    request_taking::take_in(h, lists, WhichList::GeneralFree, chosen, asked)
 }
 
 // "On *not found*, the general list; there *missing* gives 12. On *not found* twice take the whole request".
@@ -88,16 +80,15 @@ fn in_general_list(h: Header, lists: &mut [u64], asked: FrameRange) -> Result<An
     ensures { Does (in_reserved (lists_in h lists.old) asked not_found) lists.old (answered_by h result) lists.new }
 {
     match request_taking::find_in(h, lists, WhichList::GeneralFree, asked) {
-        Search::NotFound => request_growth::grow_whole(h, lists, asked),
-        Search::Missing { .. } => Err(Refusal::NotFound),
-        Search::TooShort => Err(Refusal::TooShort),
-        Search::Chunks(chosen) => {
-            request_taking::take_in(h, lists, WhichList::GeneralFree, chosen, asked)
-        }
+        Ok(chosen) => request_taking::take_in(h, lists, WhichList::GeneralFree, chosen, asked),
+        Err(Refusal::NotFound) => request_growth::grow_whole(h, lists, asked),
+        Err(Refusal::Missing { .. }) => Err(Refusal::NotFound),
+        Err(refusal) => Err(refusal),
     }
 }
 
 // The frames that are asked for: 1 for none of them, 2 for one above the top.
+#[tactic(auto, using(crate::proofs::Asked::one, crate::proofs::Asked::two, crate::proofs::Asked::in_bounds))]
 fn asked_range(frame: u64, num_frames: u64) -> Result<FrameRange, Refusal>
     ensures { result ≡ asked_range frame num_frames }
 {

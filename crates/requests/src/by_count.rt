@@ -40,6 +40,7 @@ pub fn count_bytes(h: Header, lists: &mut [u64], num_bytes: u64) -> Result<Answe
 }
 
 // "divide by 4096, round up"
+#[tactic(auto, unfolding(model::specs::Requests::frames_of))]
 pub fn frames_of(num_bytes: u64) -> u64
     requires { num_bytes ≤ address_limit + frame_size }
     ensures { result ≡ frames_of num_bytes }

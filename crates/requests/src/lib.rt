@@ -28,6 +28,7 @@ pub enum Request {
 }
 
 // As what is asked for is met.
+#[tactic(auto, using(entries::proofs::Whole::does_as), unfolding(model::specs::Calls::answer))]
 pub fn meet_request(h: Header, lists: &mut [u64], request: Request) -> Result<Answered, Refusal>
     requires { Ruled h lists.old }
     ensures { Does (answer (call_of request) (lists_in h lists.old)) lists.old (answered_by h result) lists.new }

@@ -10,18 +10,20 @@ ghost use Rattle.model.specs.Rules.{tidy};
 ghost use Rattle.model.specs.Store.{table_slots};
 ghost use Rattle.tables.specs.Words.{IsTable};
 ghost use Rattle.pairs.specs.Pairs.{pair_slots, IsPairs};
-ghost use Rattle.entries.specs.Part.{slots_of, IsTidy};
+ghost use Rattle.entries.specs.Part.{part_slots, IsTidy};
 ghost use Rattle.return_joining.specs.Rejoins.{GoesBack};
 
 use entries::Part;
 use memory_structs::FrameRange;
+use pairs::Slots;
+use tables::Table;
 
 // "Early: first empty slot. Sorted: joined to a touching chunk above; only where there is none, to one touching below; never to both."
 // The answer is the list's length after that; a list that has no place for the range stays as it is.
 pub fn give_back(part: Part, t: &mut [u64], range: FrameRange) -> Option<usize>
     requires tidy { IsTidy part t.old }
     requires end_le_top { range.end ≤ top }
-    ensures { GoesBack part.sorted range (slots_of part t.old) t.old result t.new }
+    ensures { GoesBack part.sorted range (part_slots part t.old) t.old result t.new }
 {
     if part.sorted {
         return rejoin_table(t, part.len, range);
@@ -34,7 +36,7 @@ fn add_slot(t: &mut [u64], range: FrameRange) -> Option<usize>
     requires { IsPairs t.old }
     ensures { GoesBack false range (pair_slots 32 t.old) t.old result t.new }
 {
-    if 32 <= pairs::count(t) {
+    if 32 <= Slots::new(t).count() {
         return None;
     }
     pairs::insert(t, range);
@@ -48,17 +50,18 @@ fn rejoin_table(t: &mut [u64], len: usize, range: FrameRange) -> Option<usize>
     requires end_le_top { range.end ≤ top }
     ensures { GoesBack true range (table_slots len t.old) t.old result t.new }
 {
-    if let Some(i) = tables::starting_at(t, len, range.end + 1) {
+    let table = Table { words: t, len };
+    if let Some(i) = table.starting_at(range.end + 1) {
         let joined = FrameRange {
             start: range.start,
-            end: tables::entry(t, i).end,
+            end: table.entry(i).end,
         };
         tables::replace_at(t, len, i, joined);
         return Some(len);
     }
-    if let Some(i) = tables::ending_below(t, len, range.start) {
+    if let Some(i) = table.ending_below(range.start) {
         let joined = FrameRange {
-            start: tables::entry(t, i).start,
+            start: table.entry(i).start,
             end: range.end,
         };
         tables::replace_at(t, len, i, joined);

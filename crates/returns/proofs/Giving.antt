@@ -1,12 +1,14 @@
 -- A return, test by test.
-use Prim.Native.Nat.{ℕ, ◌+◌, ◌-◌}
+use native.Mathlib.Omega.{arith}
+use Prim.Native.Nat.{ℕ, ◌+◌, ◌-◌, ◌≤◌, max}
 use mathlib.Core.Path.{◌≡◌, refl, sym, ap, subst, ◌∙◌}
 use mathlib.Core.Bool.{Bool, true, false}
 use mathlib.Core.List.{List}
 use lib.ListN.{take, drop}
 use borrow.Rule.Slice.PartMut.{put_mid}
 use Rattle.std.specs.Prelude.{Option, None, Some}
-use Rattle.memory_structs.specs.Range.{is_empty, above_top, meets}
+use borrow.Author.Tests.{ltb-false}
+use Rattle.memory_structs.specs.Range.{is_empty, above_top, meets, top}
 use Rattle.memory_structs.specs.declared.range.FrameRange.{FrameRange}
 use Rattle.memory_structs.proofs.Bools.{if_cases}
 use Rattle.model.specs.Lists.{Lists, Slot, entries, any_of, in_union}
@@ -17,7 +19,7 @@ use Rattle.entries.specs.declared.header.WhichList.{WhichList}
 use Rattle.entries.specs.declared.header.WhichList.TheVariants.{GeneralFree, ReservedFree}
 use Rattle.entries.specs.declared.header.Header.{Header}
 use Rattle.entries.specs.declared.header.Answered.{Answered}
-use Rattle.entries.specs.Part.{width, slots_of}
+use Rattle.entries.specs.Part.{width, part_slots}
 use Rattle.entries.specs.Whole.{part_of, part_in, with_length, lists_in, slots_at, with_slots, Ruled, Does, answered_with}
 use Rattle.entries.proofs.Whole.{lent_from, lent_back, same_part, does_refuse}
 use Rattle.return_joining.specs.Rejoins.{GoesBack}
@@ -41,34 +43,40 @@ module _ (r : FrameRange) (l : Lists) where
     pub reserved_free : t ≡ false → {u : Bool} → u ≡ any_of (meets r) (entries l.reserved_free) → u ≡ any_free r l
     reserved_free h p = rw (sym e ∙ h) p
 
-  -- "returns: empty, 2, 19, 18"; t is what the code's test says
+  -- "returns: empty, 2, 19, 18"; x, y, z and t are what the code's tests say
   pub nothing_given : {t : Bool} → t ≡ is_empty r → t ≡ true → give_back r l ≡ counted 0 l
   unfolding give_back
   nothing_given e h = rw (sym e ∙ h)
 
-  module _ (some : is_empty r ≡ false) where
+  module _ {x : Bool} (filled : x ≡ is_empty r) (some : x ≡ false) where
+    pub in_order : r.start ≤ r.end
+    in_order = ltb-false _ _ (sym filled ∙ some)
+
     pub above_top_holds : {t : Bool} → t ≡ above_top r → t ≡ true → give_back r l ≡ refused 2 l
     unfolding give_back
-    above_top_holds e h = rw (some, sym e ∙ h)
+    above_top_holds e h = rw (sym filled ∙ some, sym e ∙ h)
 
-    module _ (low : above_top r ≡ false) where
+    module _ {y : Bool} (inside : y ≡ above_top r) (low : y ≡ false) where
+      pub below_top : r.end ≤ top
+      below_top = omega (arith, ltb-false top (max r.start r.end) (sym inside ∙ low))
+
       pub free_before : {t : Bool} → t ≡ any_free r l → t ≡ true → give_back r l ≡ refused 19 l
       unfolding give_back
-      free_before e h = rw (some, low, sym e ∙ h)
+      free_before e h = rw (sym filled ∙ some, sym inside ∙ low, sym e ∙ h)
 
-      module _ (held : any_free r l ≡ false) {g : Bool} (e : g ≡ in_union (entries l.general_regions) r) where
+      module _ {z : Bool} (free : z ≡ any_free r l) (held : z ≡ false) {g : Bool} (e : g ≡ in_union (entries l.general_regions) r) where
         pub in_general_holds : g ≡ true → give_back r l ≡ given_to GeneralFree r l
         unfolding give_back
-        in_general_holds h = rw (some, low, held, sym e ∙ h) (sym general_given)
+        in_general_holds h = rw (sym filled ∙ some, sym inside ∙ low, sym free ∙ held, sym e ∙ h) (sym general_given)
 
         module _ (h : g ≡ false) {v : Bool} (p : v ≡ in_union (entries l.reserved_regions) r) where
           pub in_reserved_holds : v ≡ true → give_back r l ≡ given_to ReservedFree r l
           unfolding give_back
-          in_reserved_holds q = rw (some, low, held, sym e ∙ h, sym p ∙ q) (sym reserved_given)
+          in_reserved_holds q = rw (sym filled ∙ some, sym inside ∙ low, sym free ∙ held, sym e ∙ h, sym p ∙ q) (sym reserved_given)
 
           pub in_neither : v ≡ false → give_back r l ≡ refused 19 l
           unfolding give_back
-          in_neither q = rw (some, low, held, sym e ∙ h, sym p ∙ q)
+          in_neither q = rw (sym filled ∙ some, sym inside ∙ low, sym free ∙ held, sym e ∙ h, sym p ∙ q)
 
 -- a return keeps the form
 pub same_form : (r : FrameRange) (l : Lists) → (give_back r l).lists.sorted ≡ l.sorted
@@ -89,7 +97,7 @@ module _ (r : FrameRange) (h : Header) (ws : List ℕ) (u : Ruled h ws) (w : Whi
   abbrev slots : List Slot
   slots = slots_at w (lists_in h ws)
 
-  module _ (g : Option ℕ) (after : List ℕ) (x : GoesBack p.sorted r (slots_of p lent) lent g after) where
+  module _ (g : Option ℕ) (after : List ℕ) (x : GoesBack p.sorted r (part_slots p lent) lent g after) where
     here : GoesBack h.sorted r slots lent g after
     here = lent_from h ws u w q f t (λ b s. GoesBack b r s lent g after) x
 

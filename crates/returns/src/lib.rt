@@ -12,6 +12,7 @@ use memory_structs::FrameRange;
 use model::{Answer, Refusal};
 
 // "returns: empty, 2, 19, 18"; "an empty range is accepted and changes nothing".
+#[tactic(auto, using(entries::proofs::Whole::does_as, crate::proofs::Giving::in_order, crate::proofs::Giving::below_top, crate::proofs::Giving::in_general_holds, crate::proofs::Giving::in_reserved_holds), unfolding(entries::specs::Whole::slots_at))]
 pub fn give_back(h: Header, lists: &mut [u64], range: FrameRange) -> Result<Answered, Refusal>
     requires { Ruled h lists.old }
     ensures { Does (give_back range (lists_in h lists.old)) lists.old (answered_by h result) lists.new }
@@ -38,6 +39,7 @@ pub fn give_back(h: Header, lists: &mut [u64], range: FrameRange) -> Result<Answ
 }
 
 // 19: "a returned frame is free", of either kind.
+#[tactic(auto, using(crate::proofs::Giving::general_free, crate::proofs::Giving::reserved_free), unfolding(entries::specs::Whole::slots_at))]
 fn is_any_free(h: Header, lists: &[u64], range: FrameRange) -> bool
     requires ruled { Ruled h lists.now }
     requires start_le_end { range.start ≤ range.end }
@@ -50,6 +52,7 @@ fn is_any_free(h: Header, lists: &[u64], range: FrameRange) -> bool
 }
 
 // The frames go to this free list, or 18 where it has no place for them.
+#[tactic(auto, using(entries::proofs::Whole::lent_fits, entries::proofs::Whole::lent_tidy, crate::proofs::Giving::no_place_holds, crate::proofs::Giving::a_place))]
 fn give_to(
     h: Header,
     lists: &mut [u64],

@@ -9,11 +9,10 @@ use borrow.Author.Tests.{eq-eqb}
 use Rattle.memory_structs.proofs.Bools.{both_first, both_second}
 use Rattle.model.specs.Lists.{Lists, Slot}
 use Rattle.model.specs.Rules.{tidy, rules}
-use Rattle.model.specs.Store.{slots_in, slots_of, emptied, stored_in, store_rules, load, part}
+use Rattle.model.specs.Store.{Arrays, slots_in, slots_of, emptied, stored_in, store_rules, load, part}
 use Rattle.model.specs.Calls.{keeps_rules}
 use Rattle.model.specs.declared.EarlyList.{EarlyList}
 use Rattle.model.specs.declared.FrameAllocator.{FrameAllocator}
-use Rattle.model.proofs.Early.{Arrays}
 use Rattle.pairs.specs.Pairs.{pair_slots}
 use Rattle.entries.specs.Whole.{part_at}
 use Rattle.entries.proofs.Whole.{first_is, second_is, third_is, fourth_is}
@@ -24,11 +23,7 @@ use Rattle.early_rules.proofs.Stored.{plain_pairs, plain_stored, tidy_plain}
 use Rattle.rules.specs.Check.{agree, lists_agree, plain_list, plain_record, slot_lists}
 
 -- one list
-module _ (e : EarlyList) (n : ℕ) (ws : List ℕ) (s : Arrays e) where
-  list_stored : plain_list e n ≡ true → stored_in false e n ws ≡ true
-  unfolding plain_list stored_in
-  list_stored h = rw (plain_stored e s (both_second (eqb n 0) (plain e) h), eq-eqb (length e.starts) 32 s.starts) (both_first (eqb n 0) (plain e) h)
-
+module _ (e : EarlyList) (n : ℕ) (ws : List ℕ) where
   list_plain : stored_in false e n ws ≡ true → tidy false (slots_of e) ≡ true → plain_list e n ≡ true
   unfolding plain_list stored_in
   list_plain h t =
@@ -36,9 +31,14 @@ module _ (e : EarlyList) (n : ℕ) (ws : List ℕ) (s : Arrays e) where
       let zero = both_second (eqb (length e.starts) 32) (eqb n 0) (both_second (emptied e.starts e.ends e.used) (eqb (length e.starts) 32 && eqb n 0) h) in
       rw zero (tidy_plain e kept t)
 
-  list_pairs : plain_list e n ≡ true → {w : List ℕ} → w ≡ pairs_of e → pair_slots 32 w ≡ slots_of e
-  unfolding plain_list
-  list_pairs h p = ap (pair_slots 32) p ∙ plain_pairs e s (both_second (eqb n 0) (plain e) h)
+  module _ (s : Arrays e) where
+    list_stored : plain_list e n ≡ true → stored_in false e n ws ≡ true
+    unfolding plain_list stored_in
+    list_stored h = rw (plain_stored e s (both_second (eqb n 0) (plain e) h), eq-eqb (length e.starts) 32 s.starts) (both_first (eqb n 0) (plain e) h)
+
+    list_pairs : plain_list e n ≡ true → {w : List ℕ} → w ≡ pairs_of e → pair_slots 32 w ≡ slots_of e
+    unfolding plain_list
+    list_pairs h p = ap (pair_slots 32) p ∙ plain_pairs e s (both_second (eqb n 0) (plain e) h)
 
 -- the lists of a record in early form
 abbrev early_lists : FrameAllocator → Lists
@@ -49,7 +49,7 @@ not_both true true h = absurd (h refl refl)
 not_both true false h = refl
 not_both false y h = refl
 
-module _ (a : FrameAllocator) (s₀ : Arrays a.general_free) (s₁ : Arrays a.reserved_free) (s₂ : Arrays a.general_regions) (s₃ : Arrays a.reserved_regions) where
+module _ (a : FrameAllocator) where
   abbrev P₀ : Bool
   P₀ = plain_list a.general_free a.general_free_len
 
@@ -61,36 +61,6 @@ module _ (a : FrameAllocator) (s₀ : Arrays a.general_free) (s₁ : Arrays a.re
 
   abbrev P₃ : Bool
   P₃ = plain_list a.reserved_regions a.reserved_regions_len
-
-  part₀ : part_at 64 0 (packed a) ≡ pairs_of a.general_free
-  unfolding packed
-  part₀ = first_is 64 (pairs_of a.general_free) (pairs_of a.reserved_free) (pairs_of a.general_regions) (pairs_of a.reserved_regions) [] (pairs_64 a.general_free s₀ refl) (pairs_64 a.reserved_free s₁ refl) (pairs_64 a.general_regions s₂ refl) (pairs_64 a.reserved_regions s₃ refl)
-
-  part₁ : part_at 64 64 (packed a) ≡ pairs_of a.reserved_free
-  unfolding packed
-  part₁ = second_is 64 (pairs_of a.general_free) (pairs_of a.reserved_free) (pairs_of a.general_regions) (pairs_of a.reserved_regions) [] (pairs_64 a.general_free s₀ refl) (pairs_64 a.reserved_free s₁ refl) (pairs_64 a.general_regions s₂ refl) (pairs_64 a.reserved_regions s₃ refl)
-
-  part₂ : part_at 64 128 (packed a) ≡ pairs_of a.general_regions
-  unfolding packed
-  part₂ = third_is 64 (pairs_of a.general_free) (pairs_of a.reserved_free) (pairs_of a.general_regions) (pairs_of a.reserved_regions) [] (pairs_64 a.general_free s₀ refl) (pairs_64 a.reserved_free s₁ refl) (pairs_64 a.general_regions s₂ refl) (pairs_64 a.reserved_regions s₃ refl)
-
-  part₃ : part_at 64 192 (packed a) ≡ pairs_of a.reserved_regions
-  unfolding packed
-  part₃ = fourth_is 64 (pairs_of a.general_free) (pairs_of a.reserved_free) (pairs_of a.general_regions) (pairs_of a.reserved_regions) [] (pairs_64 a.general_free s₀ refl) (pairs_64 a.reserved_free s₁ refl) (pairs_64 a.general_regions s₂ refl) (pairs_64 a.reserved_regions s₃ refl)
-
-  -- as pairs of words they are its lists
-  lists_are : plain_record a ≡ true → slot_lists (packed a) ≡ early_lists a
-  unfolding plain_record
-  lists_are h =
-      let free = both_first (P₀ && P₁) (P₂ && P₃) h in
-      let regions = both_second (P₀ && P₁) (P₂ && P₃) h in
-      λ i. record {
-        sorted = false;
-        general_free = list_pairs a.general_free a.general_free_len [] s₀ (both_first P₀ P₁ free) part₀ i;
-        reserved_free = list_pairs a.reserved_free a.reserved_free_len [] s₁ (both_second P₀ P₁ free) part₁ i;
-        general_regions = list_pairs a.general_regions a.general_regions_len [] s₂ (both_first P₂ P₃ regions) part₂ i;
-        reserved_regions = list_pairs a.reserved_regions a.reserved_regions_len [] s₃ (both_second P₂ P₃ regions) part₃ i;
-      }
 
   module _ (ws : List ℕ) where
     abbrev S₀ : Bool
@@ -109,18 +79,6 @@ module _ (a : FrameAllocator) (s₀ : Arrays a.general_free) (s₁ : Arrays a.re
     unfolding keeps_rules store_rules load slots_in
     keeps_early e = rw e
 
-    all_stored : plain_record a ≡ true → ((S₀ && S₁) && (S₂ && S₃)) ≡ true
-    unfolding plain_record
-    all_stored h =
-        let free = both_first (P₀ && P₁) (P₂ && P₃) h in
-        let regions = both_second (P₀ && P₁) (P₂ && P₃) h in
-        rw (
-          list_stored a.general_free a.general_free_len (part 0 ws) s₀ (both_first P₀ P₁ free),
-          list_stored a.reserved_free a.reserved_free_len (part 1024 ws) s₁ (both_second P₀ P₁ free),
-          list_stored a.general_regions a.general_regions_len (part 2048 ws) s₂ (both_first P₂ P₃ regions),
-        )
-        (list_stored a.reserved_regions a.reserved_regions_len (part 3072 ws) s₃ (both_second P₂ P₃ regions))
-
     all_plain : ((S₀ && S₁) && (S₂ && S₃)) ≡ true → rules (early_lists a) ≡ true → plain_record a ≡ true
     unfolding plain_record rules
     all_plain h k =
@@ -131,25 +89,72 @@ module _ (a : FrameAllocator) (s₀ : Arrays a.general_free) (s₁ : Arrays a.re
         let rest = both_second (t (slots_of a.general_free) && t (slots_of a.reserved_free)) _ k in
         let regions_tidy = both_first (t (slots_of a.general_regions) && t (slots_of a.reserved_regions)) _ rest in
         rw (
-          list_plain a.general_free a.general_free_len (part 0 ws) s₀ (both_first S₀ S₁ free) (both_first (t (slots_of a.general_free)) (t (slots_of a.reserved_free)) free_tidy),
-          list_plain a.reserved_free a.reserved_free_len (part 1024 ws) s₁ (both_second S₀ S₁ free) (both_second (t (slots_of a.general_free)) (t (slots_of a.reserved_free)) free_tidy),
-          list_plain a.general_regions a.general_regions_len (part 2048 ws) s₂ (both_first S₂ S₃ regions) (both_first (t (slots_of a.general_regions)) (t (slots_of a.reserved_regions)) regions_tidy),
+          list_plain a.general_free a.general_free_len (part 0 ws) (both_first S₀ S₁ free) (both_first (t (slots_of a.general_free)) (t (slots_of a.reserved_free)) free_tidy),
+          list_plain a.reserved_free a.reserved_free_len (part 1024 ws) (both_second S₀ S₁ free) (both_second (t (slots_of a.general_free)) (t (slots_of a.reserved_free)) free_tidy),
+          list_plain a.general_regions a.general_regions_len (part 2048 ws) (both_first S₂ S₃ regions) (both_first (t (slots_of a.general_regions)) (t (slots_of a.reserved_regions)) regions_tidy),
         )
-        (list_plain a.reserved_regions a.reserved_regions_len (part 3072 ws) s₃ (both_second S₂ S₃ regions) (both_second (t (slots_of a.general_regions)) (t (slots_of a.reserved_regions)) regions_tidy))
+        (list_plain a.reserved_regions a.reserved_regions_len (part 3072 ws) (both_second S₂ S₃ regions) (both_second (t (slots_of a.general_regions)) (t (slots_of a.reserved_regions)) regions_tidy))
 
-    -- so the record is tested on its slots and then on its pairs
-    pub early_holds : a.sorted ≡ false → keeps_rules a ws ≡ (plain_record a && rules (slot_lists (packed a)))
-    early_holds e = keeps_early e ∙ go (plain_record a) refl
-      where
-        go : (b : Bool) → plain_record a ≡ b → (((S₀ && S₁) && (S₂ && S₃)) && rules (early_lists a)) ≡ (b && rules (slot_lists (packed a)))
-        go true p = rw (all_stored p) (ap rules (sym (lists_are p)))
-        go false p = not_both ((S₀ && S₁) && (S₂ && S₃)) (rules (early_lists a)) (λ h k. true≢false (sym (all_plain h k) ∙ p))
+    not_plain : plain_record a ≡ false → (((S₀ && S₁) && (S₂ && S₃)) && rules (early_lists a)) ≡ false
+    not_plain p = not_both ((S₀ && S₁) && (S₂ && S₃)) (rules (early_lists a)) (λ h k. true≢false (sym (all_plain h k) ∙ p))
 
     pub slots_broken : a.sorted ≡ false → plain_record a ≡ false → false ≡ keeps_rules a ws
-    slots_broken e p = rw (early_holds e, p)
+    slots_broken e p = sym (keeps_early e ∙ not_plain p)
 
-    pub slots_are : a.sorted ≡ false → plain_record a ≡ true → rules (slot_lists (packed a)) ≡ keeps_rules a ws
-    slots_are e p = rw (early_holds e, p)
+  module _ (s₀ : Arrays a.general_free) (s₁ : Arrays a.reserved_free) (s₂ : Arrays a.general_regions) (s₃ : Arrays a.reserved_regions) where
+    part₀ : part_at 64 0 (packed a) ≡ pairs_of a.general_free
+    unfolding packed
+    part₀ = first_is 64 (pairs_of a.general_free) (pairs_of a.reserved_free) (pairs_of a.general_regions) (pairs_of a.reserved_regions) [] (pairs_64 a.general_free s₀ refl) (pairs_64 a.reserved_free s₁ refl) (pairs_64 a.general_regions s₂ refl) (pairs_64 a.reserved_regions s₃ refl)
+
+    part₁ : part_at 64 64 (packed a) ≡ pairs_of a.reserved_free
+    unfolding packed
+    part₁ = second_is 64 (pairs_of a.general_free) (pairs_of a.reserved_free) (pairs_of a.general_regions) (pairs_of a.reserved_regions) [] (pairs_64 a.general_free s₀ refl) (pairs_64 a.reserved_free s₁ refl) (pairs_64 a.general_regions s₂ refl) (pairs_64 a.reserved_regions s₃ refl)
+
+    part₂ : part_at 64 128 (packed a) ≡ pairs_of a.general_regions
+    unfolding packed
+    part₂ = third_is 64 (pairs_of a.general_free) (pairs_of a.reserved_free) (pairs_of a.general_regions) (pairs_of a.reserved_regions) [] (pairs_64 a.general_free s₀ refl) (pairs_64 a.reserved_free s₁ refl) (pairs_64 a.general_regions s₂ refl) (pairs_64 a.reserved_regions s₃ refl)
+
+    part₃ : part_at 64 192 (packed a) ≡ pairs_of a.reserved_regions
+    unfolding packed
+    part₃ = fourth_is 64 (pairs_of a.general_free) (pairs_of a.reserved_free) (pairs_of a.general_regions) (pairs_of a.reserved_regions) [] (pairs_64 a.general_free s₀ refl) (pairs_64 a.reserved_free s₁ refl) (pairs_64 a.general_regions s₂ refl) (pairs_64 a.reserved_regions s₃ refl)
+
+    -- as pairs of words they are its lists
+    lists_are : plain_record a ≡ true → slot_lists (packed a) ≡ early_lists a
+    unfolding plain_record
+    lists_are h =
+        let free = both_first (P₀ && P₁) (P₂ && P₃) h in
+        let regions = both_second (P₀ && P₁) (P₂ && P₃) h in
+        λ i. record {
+          sorted = false;
+          general_free = list_pairs a.general_free a.general_free_len [] s₀ (both_first P₀ P₁ free) part₀ i;
+          reserved_free = list_pairs a.reserved_free a.reserved_free_len [] s₁ (both_second P₀ P₁ free) part₁ i;
+          general_regions = list_pairs a.general_regions a.general_regions_len [] s₂ (both_first P₂ P₃ regions) part₂ i;
+          reserved_regions = list_pairs a.reserved_regions a.reserved_regions_len [] s₃ (both_second P₂ P₃ regions) part₃ i;
+        }
+
+    module _ (ws : List ℕ) where
+      all_stored : plain_record a ≡ true → ((S₀ ws && S₁ ws) && (S₂ ws && S₃ ws)) ≡ true
+      unfolding plain_record
+      all_stored h =
+          let free = both_first (P₀ && P₁) (P₂ && P₃) h in
+          let regions = both_second (P₀ && P₁) (P₂ && P₃) h in
+          rw (
+            list_stored a.general_free a.general_free_len (part 0 ws) s₀ (both_first P₀ P₁ free),
+            list_stored a.reserved_free a.reserved_free_len (part 1024 ws) s₁ (both_second P₀ P₁ free),
+            list_stored a.general_regions a.general_regions_len (part 2048 ws) s₂ (both_first P₂ P₃ regions),
+          )
+          (list_stored a.reserved_regions a.reserved_regions_len (part 3072 ws) s₃ (both_second P₂ P₃ regions))
+
+      -- so the record is tested on its slots and then on its pairs
+      pub early_holds : a.sorted ≡ false → keeps_rules a ws ≡ (plain_record a && rules (slot_lists (packed a)))
+      early_holds e = keeps_early ws e ∙ go (plain_record a) refl
+        where
+          go : (b : Bool) → plain_record a ≡ b → (((S₀ ws && S₁ ws) && (S₂ ws && S₃ ws)) && rules (early_lists a)) ≡ (b && rules (slot_lists (packed a)))
+          go true p = rw (all_stored p) (ap rules (sym (lists_are p)))
+          go false p = not_plain ws p
+
+      pub slots_are : a.sorted ≡ false → plain_record a ≡ true → rules (slot_lists (packed a)) ≡ keeps_rules a ws
+      slots_are e p = rw (early_holds e, p)
 
 -- the rules of four lists of pairs, one after the other
 module _ (ws : List ℕ) where

@@ -9,7 +9,6 @@ use Rattle.model.specs.Lists.{Lists}
 use Rattle.model.specs.Requests.{Result}
 use Rattle.model.specs.Calls.{Call, Gives, answer, short_buffer}
 use Rattle.model.specs.Store.{load, record_of, words_of}
-use Rattle.model.specs.declared.Called.{Called}
 use Rattle.model.specs.declared.FrameAllocator.{FrameAllocator}
 use Rattle.model.proofs.Lasting.{answer_lawful}
 use Rattle.model.proofs.Lawful.{Lawful}
@@ -22,11 +21,12 @@ use Rattle.entries.specs.Whole.{lists_in, header_of, four, entries_of, Ruled, Do
 use Rattle.entries.specs.declared.header.Header.{Header}
 use Rattle.entries.specs.declared.header.Answered.{Answered}
 use Rattle.entries.proofs.Again.{lists_again, ruled_again}
-use Rattle.packing.specs.Packed.{packed_lists, Unpackable, Apart, Closable, closed, closed_with}
+use Rattle.packing.specs.Packed.{packed_lists, Unpackable, Apart, Closable, closed}
 use Rattle.packing.specs.Open.{lent, DoesOpen}
 use Rattle.rules.specs.declared.Opened.{Opened}
 use Rattle.packing.proofs.Closing.{can_unpack, no_unpack}
-use Rattle.packing.proofs.Packed.{and_false, packed_length, unpackable, entries_packed, close_lists, sorted_words, header_lists, pack_lists, close_sorted}
+use Rattle.std.proofs.Math.Bool.{and-false}
+use Rattle.packing.proofs.Packed.{packed_length, unpackable, entries_packed, close_lists, sorted_words, header_lists, pack_lists, close_sorted}
 
 -- the lists stand open in a header, slots and words
 pub record OpenAs (l : Lists) (h : Header) (es ws : List ℕ) : Type 0 where
@@ -124,7 +124,7 @@ module _ {l : Lists} {h : Header} {es ws : List ℕ} (o : OpenAs l h es ws) wher
       where
         go : (b : Bool) → l.sorted ≡ b → Closable (a.sorted && h.sorted) es
         go true e = no_unpack es (λ i. (same ∙ e) i && (form_is ∙ e) i)
-        go false e = can_unpack ((λ i. a.sorted && (form_is ∙ e) i) ∙ and_false a.sorted) (subst Unpackable (sym (o.slots e)) (unpackable l o.lawful e))
+        go false e = can_unpack ((λ i. a.sorted && (form_is ∙ e) i) ∙ and-false a.sorted) (subst Unpackable (sym (o.slots e)) (unpackable l o.lawful e))
 
     pub close_is : closed a h es ≡ record_of l
     close_is = go l.sorted refl
@@ -155,10 +155,10 @@ module _ (c : Call) (a : FrameAllocator) (ws : List ℕ) (long : short_buffer c 
     pub call_closes : Closable (a.sorted && d.header.sorted) es-after
     call_closes = close_can after a ws (checked_ruled a ws z) same_record
 
-    pub call_gives : (called : Called) → called ≡ closed_with a d es-after → Gives c a ws called ws-after
-    call_gives called e =
-        gives_does c a ws long z called ws-after (record {
-          answers = ap (λ (y : Called). y.answer) e ∙ open_answers stands (answer c) kept form x;
-          records = ap (λ (y : Called). y.allocator) e ∙ close_is after a ws (checked_ruled a ws z) same_record;
+    pub call_gives : (b : FrameAllocator) → b ≡ closed a d.header es-after → Gives c a ws (whole.answered_with d.answer b) ws-after
+    call_gives b e =
+        gives_does c a ws long z (whole.answered_with d.answer b) ws-after (record {
+          answers = open_answers stands (answer c) kept form x;
+          records = e ∙ close_is after a ws (checked_ruled a ws z) same_record;
           words = open_words stands (answer c) kept form x;
         })

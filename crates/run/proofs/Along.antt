@@ -1,10 +1,10 @@
 -- The calls of a run, made one after the other: what those made so far left is where those still to be made start.
-use Prim.Native.Nat.{ℕ, suc, ◌+◌, ◌*◌, ◌≤◌}
+use Prim.Native.Nat.{ℕ, ◌+◌, ◌*◌, ◌≤◌}
 use native.Mathlib.Omega.{arith}
 use mathlib.Core.Path.{◌≡◌, refl, sym, ap, subst, ◌∙◌}
 use mathlib.Core.List.{List, [], ◌∷◌, ◌++◌, append_assoc, append-nil}
-use lib.ListN.{length, take, drop, set, length-append, take-append-drop}
-use lib.Seq.{length-take-le, take_at, drop_at, drop-drop, sets-eq}
+use lib.ListN.{length, take, drop, length-append, take-append-drop}
+use lib.Seq.{length-take-le, take_at, drop_at, drop-drop}
 use Rattle.model.specs.Calls.{Call, call}
 use Rattle.model.specs.History.{outcomes, record_after, words_after, Demand3, Holds}
 use Rattle.model.specs.declared.Answer.{Answer}
@@ -17,18 +17,6 @@ use Rattle.run.specs.Runs.{ran_to, all_answers, Buffers, none, next, RunsCalls, 
 use Rattle.model.specs.Words.{answer_words}
 
 -- ---- one answer
-
-pub five_stores : (s : List ℕ) (at : ℕ) (x : Answer) → at + 5 ≤ length s →
-    set (set (set (set (set s at x.number) (at + 1) x.range.start) (at + 2) x.range.end) (at + 3) x.frame) (at + 4) x.count
-    ≡ take at s ++ answer_words x ++ drop (at + 5) s
-unfolding answer_words
-five_stores s at x h =
-    let e1 : at + 1 ≡ suc at = omega arith in
-    let e2 : at + 2 ≡ suc (suc at) = omega arith in
-    let e3 : at + 3 ≡ suc (suc (suc at)) = omega arith in
-    let e4 : at + 4 ≡ suc (suc (suc (suc at))) = omega arith in
-    (λ i. set (set (set (set (set s at x.number) (e1 i) x.range.start) (e2 i) x.range.end) (e3 i) x.frame) (e4 i) x.count)
-    ∙ sets-eq (x.number ∷ x.range.start ∷ x.range.end ∷ x.frame ∷ x.count ∷ []) s at h
 
 -- the answers before it stand, with it, before the words that are as they were
 module _ (s : List ℕ) (made : ℕ) (x : Answer) (h : 5 * made + 5 ≤ length s) (after : List ℕ) (e : after ≡ take (5 * made) s ++ answer_words x ++ drop (5 * made + 5) s) where

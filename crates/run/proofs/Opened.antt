@@ -11,7 +11,7 @@ use Rattle.model.specs.Calls.{Call, held_call, answer, short_buffer}
 use Rattle.model.specs.Store.{load, record_of}
 use Rattle.model.specs.declared.FrameAllocator.{FrameAllocator}
 use Rattle.std.specs.Prelude.{Ok, Err}
-use Rattle.std.specs.Result.{is_err}
+use Rattle.std.specs.Result.{is_ok}
 use Rattle.model.proofs.Carried.{Stands, loads}
 use Rattle.model.proofs.Each.{same_form}
 use Rattle.model.proofs.Lasting.{answer_lawful}
@@ -46,14 +46,14 @@ unfolding record_now
 passed_is (Ok u) e a h es = refl
 passed_is (Err r) e a h es = let w : ◌≡◌ {A = ℕ} 0 1 = cc in absurd (omega arith)
 
-pub refused_is : (t : Verdict) → is_err t ≡ true → (a : FrameAllocator) (h : Header) (es : List ℕ) → record_now t a h es ≡ a
+pub refused_is : (t : Verdict) → is_ok t ≡ false → (a : FrameAllocator) (h : Header) (es : List ℕ) → record_now t a h es ≡ a
 unfolding record_now
-refused_is (Ok u) e a h es = absurd (false≢true e)
+refused_is (Ok u) e a h es = absurd (true≢false e)
 refused_is (Err r) e a h es = refl
 
-pub not_refused : (t : Verdict) → is_err t ≡ false → t ≡ Ok tt
-not_refused (Ok u) e = refl
-not_refused (Err r) e = absurd (true≢false e)
+pub passed : (t : Verdict) → is_ok t ≡ true → t ≡ Ok tt
+passed (Ok u) e = refl
+passed (Err r) e = absurd (false≢true e)
 
 module _ {a : FrameAllocator} {h : Header} {es ws : List ℕ} (s : Standing a h es ws) where
   pub standing_closes : Closable (a.sorted && h.sorted) es
@@ -90,7 +90,7 @@ module _ (test : Verdict) (a : FrameAllocator) (ws : List ℕ) (e : test ≡ ver
       go (Ok t) z =
           let u = verdict_ruled a ws (sym e ∙ z) in
           passed_is test z a h es ∙ close_is (apart_as a ws p u) a ws u same_form_kept ∙ sym (ruled_stands a ws u).records
-      go (Err r) z = refused_is test (ap is_err z) a h es
+      go (Err r) z = refused_is test (ap is_ok z) a h es
 
 held_is : (n : ℕ) (l : Lists) → (answer (held_call n) l).answer ≡ (held_runs l).answer
 unfolding answer

@@ -4,10 +4,10 @@
 
 ghost use Rattle.std.specs.Prelude.{◌≡◌, Ok, ◌&&◌, ◌++◌, ◌+◌, ◌≤◌, length, take, drop};
 ghost use Rattle.packing.specs.Packed.{Closable};
-ghost use Rattle.run.specs.Runs.{record_now, ran_with, Runs};
+ghost use Rattle.run.specs.Runs.{record_now, Runs};
 ghost use Rattle.model.specs.Words.{answer_words};
 
-use entries::{Answered, Header};
+use entries::Header;
 use model::{Answer, FrameAllocator, Refusal};
 use run_calls::RunCall;
 
@@ -48,22 +48,28 @@ pub fn run(
     ensures { Runs areas.now calls.now a words.old answers.old held.old result words.new answers.new held.new }
 {
     let mut slots = [0u64; 256];
-    let opened = rules::open(a, words, &mut slots);
+    let opened = rules::open(&a, words, &mut slots);
     let tested = opened.tested;
     // The record as it was opened last: its lengths and its slots may be old ones.
     let mut allocator = a;
     let mut h = opened.header;
+    let mut ending = Ending {
+        made: calls.len() / 3,
+        end: RunEnd::Done,
+    };
     for made in 0..calls.len() / 3 {
         let i = 3 * made;
         let decoded = run_calls::decode(areas.len(), calls[i], calls[i + 1], calls[i + 2]);
         let Some(command) = decoded else {
             let end = RunEnd::Damaged;
-            return ended(tested, allocator, h, &slots, Ending { made, end });
+            ending = Ending { made, end };
+            break;
         };
         let at = 5 * made;
         if answers.len() - at < 5 {
             let end = RunEnd::NoRoom;
-            return ended(tested, allocator, h, &slots, Ending { made, end });
+            ending = Ending { made, end };
+            break;
         }
         match command {
             RunCall::Keep(call) => {
@@ -72,52 +78,26 @@ pub fn run(
                 h = done.header;
             }
             RunCall::Change(call) => {
-                let before = record_now(tested, allocator, h, &slots);
-                let called = run_calls::change_form(before, words, tested, call, areas);
+                close_tested(tested, &mut allocator, h, &slots);
+                let called = run_calls::change_form(allocator, words, tested, call, areas);
                 put_answer(answers, at, called.answer);
                 allocator = called.allocator;
-                h = packing::take_apart(allocator, &mut slots);
+                h = packing::take_apart(&allocator, &mut slots);
             }
         }
     }
-    let made = calls.len() / 3;
-    let end = RunEnd::Done;
-    ended(tested, allocator, h, &slots, Ending { made, end })
-}
-
-// The record as the calls left it.
-fn record_now(
-    tested: Result<(), Refusal>,
-    a: FrameAllocator,
-    h: Header,
-    slots: &[u64],
-) -> FrameAllocator
-    requires { tested ≡ Ok tt → Closable (a.sorted && h.sorted) slots.now }
-    ensures { result ≡ record_now tested a h slots.now }
-{
-    if tested.is_err() {
-        return a;
-    }
-    let done = Answered {
-        answer: Answer::counted(0),
-        header: h,
-    };
-    let closed = packing::close(a, done, slots);
-    closed.allocator
-}
-
-fn ended(
-    tested: Result<(), Refusal>,
-    a: FrameAllocator,
-    h: Header,
-    slots: &[u64],
-    ending: Ending,
-) -> Ran
-    requires { tested ≡ Ok tt → Closable (a.sorted && h.sorted) slots.now }
-    ensures { result ≡ ran_with ending (record_now tested a h slots.now) }
-{
-    let allocator = record_now(tested, a, h, slots);
+    close_tested(tested, &mut allocator, h, &slots);
     Ran { ending, allocator }
+}
+
+// The record as the calls left it; one that the test refuses stays as it was.
+fn close_tested(tested: Result<(), Refusal>, a: &mut FrameAllocator, h: Header, slots: &[u64])
+    requires { tested ≡ Ok tt → Closable (a.old.sorted && h.sorted) slots.now }
+    ensures { a.new ≡ record_now tested a.old h slots.now }
+{
+    if tested.is_ok() {
+        packing::close(a, h, slots);
+    }
 }
 
 // An answer in five words: number, start, end, frame, count.

@@ -23,18 +23,14 @@ use Rattle.model.specs.declared.refusals.Refusal.TheVariants.{TooFewWords}
 use Rattle.model.specs.Refusals.{number}
 use Rattle.memory_structs.specs.declared.range.FrameRange.{FrameRange}
 use Rattle.model.proofs.Each.{changes_form}
-use Rattle.rules.specs.Check.{checked, verdict, Verdict, refused_with}
+use Rattle.rules.specs.Check.{verdict, Verdict, refused_with}
 use Rattle.rules.proofs.Numbers.{short_call, gives_refused}
 use Rattle.rules.proofs.Refusals.{numbered, answers_number}
-use Rattle.rules.specs.Check as rules
-use Rattle.rules.proofs.Going.{gives_does}
 use Rattle.areas.specs.Boots.{boot_call_of}
 use Rattle.areas.specs.declared.AreaUnit.{AreaUnit}
 use Rattle.areas.specs.declared.AreaUnit.TheVariants as unit
 use Rattle.query_core.specs.Listed as query
-use Rattle.model.specs.Returns.{sort}
-use Rattle.model.specs.Store.{load}
-use Rattle.entries.specs.Whole.{lists_in, Ruled, Does}
+use Rattle.entries.specs.Whole.{lists_in, Ruled}
 use Rattle.entries.specs.Whole as whole
 use Rattle.entries.specs.declared.header.Header.{Header}
 use Rattle.entries.specs.declared.header.Answered.{Answered}
@@ -66,13 +62,6 @@ unfolding areas_at
 areas_part first count areas =
     let e : 3 * first + 3 * count - 3 * first ≡ 3 * count = omega arith in
     ap (λ (n : ℕ). take n (drop (3 * first) areas)) e
-
--- a call that may change the form is no held list, and has no buffer
-pub form_long : (areas : List ℕ) (c : FormCall) → short_buffer (form_call areas c) ≡ false
-unfolding form_call boot_call_of short_buffer
-form_long areas (Boot unit.Frames first count) = refl
-form_long areas (Boot unit.Bytes first count) = refl
-form_long areas Sort = refl
 
 pub form_other : (areas : List ℕ) (c : FormCall) (n : ℕ) → form_call areas c ≡ held_call n → ⊥
 unfolding form_call boot_call_of
@@ -226,13 +215,22 @@ module _ (areas : List ℕ) {c : FormCall} {a : FrameAllocator} {ws after : List
   unfolding form_call
   boot_gives e g = form_as e g
 
-  pub sort_gives : c ≡ Sort → checked a ws ≡ 0 → rules.Does (sort (load a ws)) ws called after → Gives (form_call areas c) a ws called after
-  unfolding form_call answer short_buffer
-  sort_gives e z d = form_as e (gives_does sort_call a ws refl z called after d)
+  pub sort_gives : c ≡ Sort → Gives sort_call a ws called after → Gives (form_call areas c) a ws called after
+  unfolding form_call
+  sort_gives e g = form_as e g
 
-module _ (c : OpenCall) (tested : Verdict) (before : List ℕ) (z : verdict_for (open_call (length before) c) tested ≡ Ok tt) where
+-- v is what the test of the call says
+module _ (c : OpenCall) (tested : Verdict) (before : List ℕ) {v : Verdict} (is : v ≡ verdict_for (open_call (length before) c) tested) (z : v ≡ Ok tt) where
   known_verdict : {known : OpenCall} → c ≡ known → verdict_for (open_call (length before) known) tested ≡ Ok tt
-  known_verdict e = subst (λ (x : OpenCall). verdict_for (open_call (length before) x) tested ≡ Ok tt) e z
+  known_verdict e = subst (λ (x : OpenCall). verdict_for (open_call (length before) x) tested ≡ Ok tt) e (sym is ∙ z)
+
+  pub goes_ruled : {h : Header} (es ws : List ℕ) → (tested ≡ Ok tt → Ruled h (lent h.sorted es ws)) → Ruled h (lent h.sorted es ws)
+  goes_ruled es ws keeps = keeps (goes_on (open_call (length before) c) tested (sym is ∙ z))
+
+  -- a held list that goes on has a long buffer
+  pub goes_long_held : c ≡ HeldList → 2048 ≤ length before
+  unfolding open_call
+  goes_long_held e = long_held (length before) (goes_long (held_call (length before)) tested (known_verdict e))
 
   module _ {h : Header} {es ws : List ℕ} {d : Answered} where
     pub request_made : {r : Request} {es-after ws-after : List ℕ} → c ≡ Allocate r → DoesOpen (answer (asked.call_of r)) h es ws d es-after ws-after → MadeOpen (open_call (length before) c) tested h es ws before d es-after ws-after before
@@ -243,26 +241,19 @@ module _ (c : OpenCall) (tested : Verdict) (before : List ℕ) (z : verdict_for 
     unfolding open_call
     return_made e x = made_as (length before) e (done (known_verdict e) x (kept_open _ _ _ before (λ q. let w : ◌≡◌ {A = ℕ} 0 1 = cc in omega arith)))
 
-    module _ (u : Ruled h (lent h.sorted es ws)) {x : Answer} (p : d ≡ whole.answered_with x h) where
+    module _ (keeps : tested ≡ Ok tt → Ruled h (lent h.sorted es ws)) {x : Answer} (p : d ≡ whole.answered_with x h) where
       pub kind_made : {r : FrameRange} → c ≡ KindOf r → x ≡ (kind_of r (lists_in h (lent h.sorted es ws))).answer → MadeOpen (open_call (length before) c) tested h es ws before d es ws before
       unfolding open_call answer
-      kind_made {r} e k = made_as (length before) e (done (known_verdict e) (asks_open (kind_call r) h es ws u (kind_keeps r _) k p) (kept_open _ _ _ before (λ q. let w : ◌≡◌ {A = ℕ} 0 1 = cc in omega arith)))
+      kind_made {r} e k = made_as (length before) e (done (known_verdict e) (asks_open (kind_call r) h es ws (goes_ruled es ws keeps) (kind_keeps r _) k p) (kept_open _ _ _ before (λ q. let w : ◌≡◌ {A = ℕ} 0 1 = cc in omega arith)))
 
       pub total_made : {k : Kind} → c ≡ FreeTotal k → x ≡ (total k (lists_in h (lent h.sorted es ws))).answer → MadeOpen (open_call (length before) c) tested h es ws before d es ws before
       unfolding open_call answer
-      total_made {k} e q = made_as (length before) e (done (known_verdict e) (asks_open (total_call k) h es ws u (total_keeps k _) q p) (kept_open _ _ _ before (λ q. let w : ◌≡◌ {A = ℕ} 0 1 = cc in omega arith)))
+      total_made {k} e q = made_as (length before) e (done (known_verdict e) (asks_open (total_call k) h es ws (goes_ruled es ws keeps) (total_keeps k _) q p) (kept_open _ _ _ before (λ q. let w : ◌≡◌ {A = ℕ} 0 1 = cc in omega arith)))
 
       pub held_made : {after : List ℕ} → c ≡ HeldList → query.Listed (lists_in h (lent h.sorted es ws)) before x after → MadeOpen (open_call (length before) c) tested h es ws before d es ws after
       unfolding open_call answer
       held_made {after} e t =
-          made_as (length before) e (done (known_verdict e) (asks_open (held_call (length before)) h es ws u (held_keeps (length before) _) t.answers p) (record {
+          made_as (length before) e (done (known_verdict e) (asks_open (held_call (length before)) h es ws (goes_ruled es ws keeps) (held_keeps (length before) _) t.answers p) (record {
             listed = λ q. subst (λ (m : ℕ). HeldWritten (lists_in h (lent h.sorted es ws)) m before after) (sym (ap (λ (y : Answered). y.answer.count) p)) t.written;
             kept = λ q. absurd (q refl);
           }))
-
--- a held list that goes on has a long buffer
-pub long_verdict_held : (n : ℕ) (c : OpenCall) (tested : Verdict) → c ≡ HeldList → verdict_for (open_call n c) tested ≡ Ok tt → 2048 ≤ n
-unfolding open_call
-long_verdict_held n c tested e z =
-    let y : verdict_for (held_call n) tested ≡ Ok tt = subst (λ (x : OpenCall). verdict_for (open_call n x) tested ≡ Ok tt) e z in
-    long_held n (goes_long (held_call n) tested y)

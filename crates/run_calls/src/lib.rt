@@ -1,14 +1,13 @@
 // One call as three words, read and made: what the call is, and two numbers (docs/RUN.md). A list of them is run by `run`.
 #![tactic(auto)]
 
-ghost use Rattle.std.specs.Prelude.{◌≡◌, true, length, Ok};
+ghost use Rattle.std.specs.Prelude.{◌≡◌, length, Ok};
 ghost use Rattle.model.specs.Calls.{Gives};
 ghost use Rattle.rules.specs.Check.{verdict, Ruled};
-ghost use Rattle.areas.specs.Boots.{boot_call_of};
 ghost use Rattle.entries.specs.Whole as whole;
 ghost use Rattle.packing.specs.Open.{lent};
 ghost use Rattle.run_calls.specs.Commands as spec;
-ghost use Rattle.run_calls.specs.Commands.{Listed, areas_at, form_call, open_call};
+ghost use Rattle.run_calls.specs.Commands.{Listed, form_call, open_call};
 ghost use Rattle.run_calls.specs.Made.{verdict_for, MadeOpen};
 
 use areas::AreaUnit;
@@ -94,6 +93,7 @@ fn decode_boot(unit: AreaUnit, areas_len: usize, first: u64, count: u64) -> Opti
 }
 
 // Whether so many areas from this one on stand in a list of so many words. The sum of the two numbers may be above what a word holds.
+#[tactic(auto, using(crate::proofs::Decoding::listed_counted, crate::proofs::Decoding::listed_none))]
 fn are_listed(areas_len: usize, first: u64, count: u64) -> bool
     ensures { result ≡ spec.are_listed areas_len first count }
 {
@@ -104,8 +104,7 @@ fn are_listed(areas_len: usize, first: u64, count: u64) -> bool
     false
 }
 
-// Makes a call that may change the form, on the record. The record was tested before; where the test lets it go on, it keeps the rules
-// (`verdict_lasts`, rules/proofs/Lasting).
+// Makes a call that may change the form, on the record, which was tested before: its verdict lasts (`verdict_lasts`, rules/proofs/Lasting).
 pub fn change_form(
     a: FrameAllocator,
     words: &mut [u64],
@@ -117,21 +116,19 @@ pub fn change_form(
     requires listed { Listed (length areas.now) call }
     ensures { Gives (form_call areas.now call) a words.old result words.new }
 {
-    if let Err(refusal) = tested {
-        return rules::refused(a, refusal);
-    }
     match call {
         FormCall::Boot { unit, first, count } => {
             let from = 3 * first;
             let to = from + 3 * count;
-            boot::boot_words(a, &areas[from..to], unit, words)
+            boot::boot_words(a, tested, &areas[from..to], unit)
         }
-        FormCall::Sort => sort::sort_record(a, words),
+        FormCall::Sort => sort::sort_tested(a, tested, words),
     }
 }
 
 // Makes a call that keeps the form, on the allocator as it stands open; refused by the test, or by 3 for a held list whose buffer
 // is too short: 3 comes before 11.
+#[tactic(auto, using(crate::proofs::Making::request_made, crate::proofs::Making::return_made, crate::proofs::Making::kind_made, crate::proofs::Making::total_made))]
 pub fn make_open(
     tested: Result<(), Refusal>,
     h: Header,
@@ -158,6 +155,7 @@ pub fn make_open(
 }
 
 // What the test says, or 3 for a held list whose buffer is too short.
+#[tactic(auto, using(crate::proofs::Making::other_verdict, crate::proofs::Making::short_verdict, crate::proofs::Making::long_verdict))]
 fn check_call(call: OpenCall, tested: Result<(), Refusal>, buffer_len: usize) -> Result<(), Refusal>
     ensures { result ≡ verdict_for (open_call buffer_len call) tested }
 {

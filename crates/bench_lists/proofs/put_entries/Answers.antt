@@ -8,7 +8,7 @@ use Rattle.memory_structs.specs.Range.{is_empty}
 use Rattle.memory_structs.specs.declared.range.FrameRange.{FrameRange}
 use Rattle.model.specs.Lists.{Slot, entries}
 use Rattle.model.proofs.Ruled.{tidy_is}
-use Rattle.entries.specs.Part.{slots_of}
+use Rattle.entries.specs.Part.{part_slots}
 use Rattle.bench_lists.proofs.Going.{Going, going_starts, going_on, going_past, going_ends, moved, past, here, slots_few}
 use Rattle.bench_lists.proofs.put_entries.Goals as goal
 use Rattle.bench_lists.proofs.put_entries.Goals.{then-not-is_empty, else-not-is_empty}
@@ -26,7 +26,7 @@ put_entry-next-requires c = let few : c.loop-i.i < 512 = omega (arith, slots_few
 pub loop-i-preserved : goal.loop-i-preserved
 loop-i-preserved c =
     let v = c.loop-i in
-    let s : List Slot = slots_of c.args.part c.args.t.now in
+    let s : List Slot = part_slots c.args.part c.args.t.now in
     let more : v.i < length s = omega (arith, c.slots_in-i-end.ensures) in
     let few : v.i < 512 = omega (arith, slots_few c.requires.tidy.part, more) in
     let inside : v.next ≤ length v.out = omega (arith, few, c.requires.entries_room_in_bounds, v.invariant.place, v.invariant.size) in
@@ -48,4 +48,4 @@ loop-i-preserved c =
 pub returns : goal.returns
 unfolding entries
 returns c = let v = c.loop-i in
-    going_ends v.invariant (ap entries (drop_of_length-le (slots_of c.args.part c.args.t.now) {i = v.i} (omega (arith, c.slots_in-i-end.ensures))))
+    going_ends v.invariant (ap entries (drop_of_length-le (part_slots c.args.part c.args.t.now) {i = v.i} (omega (arith, c.slots_in-i-end.ensures))))

@@ -1,7 +1,5 @@
 -- `perform`: refused by 3 or 11; or opened, done and closed.
-use mathlib.Core.Path.{◌≡◌, sym, subst, ◌∙◌}
-use Rattle.model.specs.Calls.{Gives}
-use Rattle.model.specs.declared.Called.{Called}
+use mathlib.Core.Path.{◌≡◌, sym, ◌∙◌}
 use Rattle.rules.specs.Check.{checked}
 use Rattle.rules.proofs.Numbers.{gives_refused, passed_number}
 use Rattle.rules.proofs.OpenAs.{call_may, call_closes, call_gives}
@@ -29,5 +27,4 @@ returns c =
 
 pub returns-in-Err : goal.returns-in-Err
 returns-in-Err c = let a = c.args in
-    subst (λ (x : Called). Gives (call_of a.operation) a.a a.words.now x a.words.now) (sym c.refused.ensures)
-    (gives_refused (call_of a.operation) a.a a.words.now (never_short a.operation) c.in-Err.refusal (sym c.open-opened.ensures.tested ∙ c.in-Err.is))
+    rw c.from-called.ensures (gives_refused (call_of a.operation) a.a a.words.now (never_short a.operation) c.in-Err.refusal (sym c.open-opened.ensures.tested ∙ c.in-Err.is))

@@ -12,16 +12,16 @@ use Rattle.early_rules.proofs.covers_all.Goals as goal
 use Rattle.early_rules.proofs.covers_all.Goals.{else-not-is_empty-via-then-not-is_empty+else-not-covers, else-not-is_empty-via-else-not-is_empty}
 
 pub returns-then-not-covers : goal.returns-then-not-covers
-returns-then-not-covers c = let p : FrameRange → Bool = in_union (entries (pair_slots 32 c.args.regions.now)) in
-    let w = c.args.chunks.now in
+returns-then-not-covers c = let p : FrameRange → Bool = in_union (entries (pair_slots 32 c.args.regions.words.now)) in
+    let w = c.args.chunks.words.now in
     let i = c.loop-i.i in
     sym
     (c.loop-i.invariant ∙ all_here p w i (omega arith) (filled w i c.entry-chunk.ensures (sym c.is_empty.ensures ∙ c.if-not-is_empty.true))
     ∙ ap (λ (b : Bool). b && all_of p (left (i + 1) w)) (ap p (sym c.entry-chunk.ensures) ∙ sym c.covers.ensures ∙ c.if-not-covers.true))
 
 pub loop-i-preserved : goal.loop-i-preserved
-loop-i-preserved c = let p : FrameRange → Bool = in_union (entries (pair_slots 32 c.args.regions.now)) in
-    let w = c.args.chunks.now in
+loop-i-preserved c = let p : FrameRange → Bool = in_union (entries (pair_slots 32 c.args.regions.words.now)) in
+    let w = c.args.chunks.words.now in
     let i = c.loop-i.i in
     c.loop-i.invariant ∙ elim c.else-not-is_empty.branch [
       | else-not-is_empty-via-then-not-is_empty+else-not-covers v ↦ all_here p w i (omega arith) (filled w i c.entry-chunk.ensures (sym c.is_empty.ensures ∙ v.if-not-is_empty.true))
@@ -30,4 +30,4 @@ loop-i-preserved c = let p : FrameRange → Bool = in_union (entries (pair_slots
     ]
 
 pub returns : goal.returns
-returns c = sym (c.loop-i.invariant ∙ all_done (in_union (entries (pair_slots 32 c.args.regions.now))) c.args.chunks.now c.loop-i.i (omega arith))
+returns c = sym (c.loop-i.invariant ∙ all_done (in_union (entries (pair_slots 32 c.args.regions.words.now))) c.args.chunks.words.now c.loop-i.i (omega arith))

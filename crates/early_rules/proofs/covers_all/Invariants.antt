@@ -6,4 +6,4 @@ use Rattle.pairs.proofs.Turns.{left}
 use Rattle.early_rules.proofs.covers_all.Given as goal
 
 abbrev pub invariant-loop-i : goal.invariant-loop-i
-invariant-loop-i l = all_of (in_union (entries (pair_slots 32 l.regions))) (left 0 l.chunks) ≡ all_of (in_union (entries (pair_slots 32 l.regions))) (left l.i l.chunks)
+invariant-loop-i l = all_of (in_union (entries (pair_slots 32 l.regions.words.now))) (left 0 l.chunks.words.now) ≡ all_of (in_union (entries (pair_slots 32 l.regions.words.now))) (left l.i l.chunks.words.now)

@@ -7,4 +7,4 @@ use Rattle.early_rules.proofs.Orderly.{orderly_from}
 use Rattle.early_rules.proofs.is_early_list.Given as goal
 
 abbrev pub invariant-loop-i : goal.invariant-loop-i
-invariant-loop-i l = tidy false (pair_slots 32 l.t) ≡ orderly_from l.i l.t
+invariant-loop-i l = tidy false (pair_slots 32 l.slots.words.now) ≡ orderly_from l.i l.slots.words.now

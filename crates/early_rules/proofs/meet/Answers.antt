@@ -11,16 +11,16 @@ use Rattle.early_rules.proofs.meet.Goals.{else-not-is_empty-via-then-not-is_empt
 use Rattle.early_rules.proofs.meet.Invariants.{meets_any}
 
 pub returns-then-contains_any : goal.returns-then-contains_any
-returns-then-contains_any c = let p = meets_any c.args.b.now in
-    let w = c.args.a.now in
+returns-then-contains_any c = let p = meets_any c.args.b.words.now in
+    let w = c.args.a.words.now in
     let i = c.loop-i.i in
     sym
     (c.loop-i.invariant ∙ any_here p w i (omega arith) (filled w i c.entry-slot.ensures (sym c.is_empty.ensures ∙ c.if-not-is_empty.true))
     ∙ ap (λ (b : Bool). b || any_of p (left (i + 1) w)) (ap p (sym c.entry-slot.ensures) ∙ sym c.contains_any.ensures ∙ c.if-contains_any.true))
 
 pub loop-i-preserved : goal.loop-i-preserved
-loop-i-preserved c = let p = meets_any c.args.b.now in
-    let w = c.args.a.now in
+loop-i-preserved c = let p = meets_any c.args.b.words.now in
+    let w = c.args.a.words.now in
     let i = c.loop-i.i in
     c.loop-i.invariant ∙ elim c.else-not-is_empty.branch [
       | else-not-is_empty-via-then-not-is_empty+else-contains_any v ↦ any_here p w i (omega arith) (filled w i c.entry-slot.ensures (sym c.is_empty.ensures ∙ v.if-not-is_empty.true))
@@ -29,4 +29,4 @@ loop-i-preserved c = let p = meets_any c.args.b.now in
     ]
 
 pub returns : goal.returns
-returns c = sym (c.loop-i.invariant ∙ any_done (meets_any c.args.b.now) c.args.a.now c.loop-i.i (omega arith))
+returns c = sym (c.loop-i.invariant ∙ any_done (meets_any c.args.b.words.now) c.args.a.words.now c.loop-i.i (omega arith))

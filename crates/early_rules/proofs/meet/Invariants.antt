@@ -14,4 +14,4 @@ abbrev pub meets_any : List ℕ → FrameRange → Bool
 meets_any b r = any_of (meets r) (entries (pair_slots 32 b))
 
 abbrev pub invariant-loop-i : goal.invariant-loop-i
-invariant-loop-i l = any_of (meets_any l.b) (left 0 l.a) ≡ any_of (meets_any l.b) (left l.i l.a)
+invariant-loop-i l = any_of (meets_any l.b.words.now) (left 0 l.a.words.now) ≡ any_of (meets_any l.b.words.now) (left l.i l.a.words.now)

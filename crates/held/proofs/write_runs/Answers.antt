@@ -5,7 +5,7 @@ use Rattle.held.proofs.Walk.{walk_start, walk_ends, walk_length, walk_room, chun
 use Rattle.held.proofs.write_runs.Goals as goal
 
 pub loop-i-init : goal.loop-i-init
-loop-i-init c = walk_start _ _ _ _ _ c.requires.regions_value c.requires.chunks_value c.requires.regions_len_in_bounds.2
+loop-i-init c = walk_start _ _ _ _ _ c.requires.regions_value c.requires.chunks_value c.requires.buffer_len
 
 pub put_frames-runs-requires : goal.put_frames-runs-requires
 put_frames-runs-requires c = let w = c.loop-i.invariant in
@@ -18,7 +18,7 @@ bounds-chunks-j c = let k = chunk_there c.loop-i.invariant c.loop-i-test.true _ 
 pub overflow_add-chunks : goal.overflow_add-chunks
 overflow_add-chunks c = let a = c.args in
     let k = chunk_there c.loop-i.invariant c.loop-i-test.true _ c.next_start-chunk.ensures c.if-chunk-last.true in
-    let p = tidy_pair a.chunks_len a.chunks.now c.requires.chunks_value c.loop-i.j k.0 in
+    let p = tidy_pair a.chunks.len a.chunks.words.now c.requires.chunks_value c.loop-i.j k.0 in
     omega (arith, p.filled, p.low)
 
 pub loop-i-smaller-then-chunk-last : goal.loop-i-smaller-then-chunk-last

@@ -4,7 +4,7 @@ use Rattle.held.proofs.Walk.{Walked}
 use Rattle.held.proofs.write_runs.Given as goal
 
 abbrev pub invariant-loop-i : goal.invariant-loop-i
-invariant-loop-i l = Walked l.regions_len l.regions l.chunks_len l.chunks l.initial.buffer l.buffer l.i l.j l.from l.runs
+invariant-loop-i l = Walked l.regions.len l.regions.words.now l.chunks.len l.chunks.words.now l.initial.buffer l.buffer l.i l.j l.from l.runs
 
 abbrev pub decreases-loop-i : goal.decreases-loop-i
-decreases-loop-i l = (l.regions_len - l.i) + (l.chunks_len - l.j)
+decreases-loop-i l = (l.regions.len - l.i) + (l.chunks.len - l.j)

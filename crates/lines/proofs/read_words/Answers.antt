@@ -1,9 +1,10 @@
 -- `read_words`: the words so far are put, and at the end all of them.
 use Rattle.std.proofs.Common.{◌+◌, ◌==◌, List, ℕ, drop, ap, ◌∙◌, rules, tests, arith}
+use Rattle.std.proofs.lemmas.List.{take_rest}
 use Rattle.std.proofs.lemmas.Iterator.Consumers.{YieldsList-end}
 use Rattle.std.proofs.lemmas.Iterator.Splits.{YieldsList-from_slice_split}
 use Rattle.lines.specs.Words.{Filled, filled, nothing_read, put_all, words_after}
-use Rattle.lines.proofs.Words.{to_end, put_within, put_more}
+use Rattle.lines.proofs.Words.{put_within, put_more}
 use Rattle.lines.specs.declared.Reading.{Reading}
 use lib.ListN.{drop_of_length-le}
 use native.Mathlib.Numerals.{add-one}
@@ -38,7 +39,7 @@ returns-clause-numbers_after c =
     let s = c.split-word-items.ensures in
     let g = c.into_iter-word-iterator.ensures.into_iter_gives in
     let end = YieldsList-end (YieldsList-from_slice_split {s = c.into_iter-word-iterator.result} _ (λ b. b == 32) (drop (a.name_end + 1) a.line.now)
-    (ap (λ x. x.rest.now) g ∙ s.rest ∙ to_end (a.name_end + 1) a.line.now) (ap (λ x. x.done) g ∙ s.done) (ap (λ x. x.pred) g ∙ s.closure) (λ x r q k. search (rules, tests)))
+    (ap (λ x. x.rest.now) g ∙ s.rest ∙ take_rest a.line.now (a.name_end + 1)) (ap (λ x. x.done) g ∙ s.done) (ap (λ x. x.pred) g ∙ s.closure) (λ x r q k. search (rules, tests)))
     c.loop-word.yielded _ c.loop-word.yielded_by _ _ c.in-None.is c.next.ensures.steps in
     c.loop-word.invariant.so_far
     ∙ ap (λ (ts : List (List ℕ)). put_all a.layout ts (filled nothing_read a.numbers.now)) end.0

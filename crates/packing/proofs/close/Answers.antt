@@ -1,58 +1,47 @@
 -- `close`: the header, and the slots where they are to be written, list by list.
 use mathlib.Core.Path.{sym, ◌∙◌}
-use Rattle.packing.specs.Packed.{Unpackable}
 use Rattle.packing.proofs.Closing.{to_unpack, slots_written, slots_kept}
 use native.Mathlib.Omega.{arith}
 use Rattle.packing.proofs.close.Goals as goal
 
-pub returns-then-stays_sorted : goal.returns-then-stays_sorted
-returns-then-stays_sorted c = λ i. record { answer = c.args.done.answer; allocator = sym (slots_kept c.args.a c.args.done.header c.args.slots.now (sym c.stays_sorted.ensures ∙ c.if-stays_sorted.true)) i }
+pub returns-then-sorted : goal.returns-then-sorted
+returns-then-sorted c = sym (slots_kept c.args.a.now c.args.h c.args.slots.now (sym c.stays_sorted-sorted.ensures ∙ c.if-sorted.true))
 
 pub slice_bounds-unpack_list-end : goal.slice_bounds-unpack_list-end
-slice_bounds-unpack_list-end c =
-    let pairs : Unpackable c.args.slots.now = to_unpack (sym c.stays_sorted.ensures ∙ c.if-stays_sorted.false) c.requires in
-    omega (arith, pairs.long)
+slice_bounds-unpack_list-end c = omega (arith, (to_unpack c.stays_sorted-sorted.ensures c.if-sorted.false c.requires).long)
 
 pub unpack_list-requires : goal.unpack_list-requires
-unpack_list-requires c = (to_unpack (sym c.stays_sorted.ensures ∙ c.if-stays_sorted.false) c.requires).general_free
+unpack_list-requires c = (to_unpack c.stays_sorted-sorted.ensures c.if-sorted.false c.requires).general_free
 
 pub slice_bounds-unpack_list-end-2 : goal.slice_bounds-unpack_list-end-2
-slice_bounds-unpack_list-end-2 c =
-    let pairs : Unpackable c.args.slots.now = to_unpack (sym c.stays_sorted.ensures ∙ c.if-stays_sorted.false) c.requires in
-    omega (arith, pairs.long)
+slice_bounds-unpack_list-end-2 c = omega (arith, (to_unpack c.stays_sorted-sorted.ensures c.if-sorted.false c.requires).long)
 
 pub unpack_list-requires-2 : goal.unpack_list-requires-2
-unpack_list-requires-2 c = (to_unpack (sym c.stays_sorted.ensures ∙ c.if-stays_sorted.false) c.requires).reserved_free
+unpack_list-requires-2 c = (to_unpack c.stays_sorted-sorted.ensures c.if-sorted.false c.requires).reserved_free
 
 pub slice_bounds-unpack_list-end-3 : goal.slice_bounds-unpack_list-end-3
-slice_bounds-unpack_list-end-3 c =
-    let pairs : Unpackable c.args.slots.now = to_unpack (sym c.stays_sorted.ensures ∙ c.if-stays_sorted.false) c.requires in
-    omega (arith, pairs.long)
+slice_bounds-unpack_list-end-3 c = omega (arith, (to_unpack c.stays_sorted-sorted.ensures c.if-sorted.false c.requires).long)
 
 pub unpack_list-requires-3 : goal.unpack_list-requires-3
-unpack_list-requires-3 c = (to_unpack (sym c.stays_sorted.ensures ∙ c.if-stays_sorted.false) c.requires).general_regions
+unpack_list-requires-3 c = (to_unpack c.stays_sorted-sorted.ensures c.if-sorted.false c.requires).general_regions
 
 pub slice_bounds-unpack_list-end-4 : goal.slice_bounds-unpack_list-end-4
-slice_bounds-unpack_list-end-4 c =
-    let pairs : Unpackable c.args.slots.now = to_unpack (sym c.stays_sorted.ensures ∙ c.if-stays_sorted.false) c.requires in
-    omega (arith, pairs.long)
+slice_bounds-unpack_list-end-4 c = omega (arith, (to_unpack c.stays_sorted-sorted.ensures c.if-sorted.false c.requires).long)
 
 pub unpack_list-requires-4 : goal.unpack_list-requires-4
-unpack_list-requires-4 c = (to_unpack (sym c.stays_sorted.ensures ∙ c.if-stays_sorted.false) c.requires).reserved_regions
+unpack_list-requires-4 c = (to_unpack c.stays_sorted-sorted.ensures c.if-sorted.false c.requires).reserved_regions
 
 pub returns : goal.returns
 returns c =
     (λ i. record {
-      answer = c.args.done.answer;
-      allocator = record {
-        sorted = c.args.done.header.sorted;
-        general_free = c.unpack_list.ensures i;
-        reserved_free = c.unpack_list-2.ensures i;
-        general_regions = c.unpack_list-3.ensures i;
-        reserved_regions = c.unpack_list-4.ensures i;
-        general_free_len = c.args.done.header.general_free;
-        reserved_free_len = c.args.done.header.reserved_free;
-        general_regions_len = c.args.done.header.general_regions;
-        reserved_regions_len = c.args.done.header.reserved_regions;
-      };
-    }) ∙ (λ i. record { answer = c.args.done.answer; allocator = sym (slots_written c.args.a c.args.done.header c.args.slots.now (sym c.stays_sorted.ensures ∙ c.if-stays_sorted.false)) i })
+      sorted = c.args.h.sorted;
+      general_free = c.unpack_list.ensures i;
+      reserved_free = c.unpack_list-2.ensures i;
+      general_regions = c.unpack_list-3.ensures i;
+      reserved_regions = c.unpack_list-4.ensures i;
+      general_free_len = c.args.h.general_free;
+      reserved_free_len = c.args.h.reserved_free;
+      general_regions_len = c.args.h.general_regions;
+      reserved_regions_len = c.args.h.reserved_regions;
+    })
+    ∙ sym (slots_written c.args.a.now c.args.h c.args.slots.now (sym c.stays_sorted-sorted.ensures ∙ c.if-sorted.false))

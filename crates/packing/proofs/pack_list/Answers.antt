@@ -15,5 +15,5 @@ loop-i-preserved c =
       packed = rw v.packed (pack_turn c.loop-i.i c.args.list.now.starts c.args.list.now.ends c.args.t.now (omega arith) (omega arith) (omega arith));
     }
 
-pub returns : goal.returns
-returns c = c.loop-i.invariant.packed ∙ pack_end c.loop-i.i c.args.list.now.starts c.args.list.now.ends c.args.t.now (omega arith) (omega arith) (omega arith)
+pub returns-clause-words : goal.returns-clause-words
+returns-clause-words c = c.loop-i.invariant.packed ∙ pack_end c.loop-i.i c.args.list.now.starts c.args.list.now.ends c.args.t.now (omega arith) (omega arith) (omega arith)

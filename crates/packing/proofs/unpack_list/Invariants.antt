@@ -1,7 +1,7 @@
 -- `unpack_list`: at each turn the first i slots are written.
 use mathlib.Core.Path.{◌≡◌}
 use lib.ListN.{take}
-use Rattle.model.proofs.Early.{Arrays}
+use Rattle.model.specs.Store.{Arrays}
 use Rattle.packing.proofs.Turns.{starts_of, ends_of, flags_of}
 use Rattle.packing.proofs.unpack_list.Given as goal
 

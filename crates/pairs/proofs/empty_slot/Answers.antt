@@ -5,7 +5,7 @@ use Rattle.model.specs.Lists.{unused}
 use Rattle.model.specs.Store.{slot_words}
 use Rattle.pairs.proofs.First.{remove_is}
 use Rattle.pairs.specs.Pairs.{pair_slots}
-use Rattle.pairs.proofs.Slots.{put, pairs_length}
+use Rattle.pairs.proofs.Pairs.{put, pairs_length}
 use native.Mathlib.Omega.{arith}
 use Rattle.pairs.proofs.empty_slot.Goals as goal
 

@@ -1,7 +1,7 @@
 -- `fill`: the two stores are the slot.
 use lib.ListN.{length-set}
 use Rattle.model.specs.Lists.{used}
-use Rattle.pairs.proofs.Slots.{put}
+use Rattle.pairs.proofs.Pairs.{put}
 use native.Mathlib.Omega.{arith}
 use Rattle.pairs.proofs.fill.Goals as goal
 

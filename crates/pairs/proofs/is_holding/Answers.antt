@@ -5,7 +5,7 @@ use lib.Dec.{leb}
 use borrow.Author.Tests.{le-leb, lt-leb, ltb-true, ltb-false}
 use Rattle.memory_structs.specs.Range.{inside}
 use Rattle.pairs.specs.Searches.{passes}
-use Rattle.pairs.proofs.Slots.{pair_used, pair_unused}
+use Rattle.pairs.proofs.Pairs.{pair_used, pair_unused}
 use Rattle.pairs.proofs.is_holding.Goals as goal
 
 pub returns-then-is_empty : goal.returns-then-is_empty

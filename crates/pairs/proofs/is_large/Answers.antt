@@ -4,7 +4,7 @@ use lib.Dec.{leb}
 use borrow.Author.Tests.{ltb-true, ltb-false}
 use Rattle.memory_structs.specs.Range.{size}
 use Rattle.pairs.specs.Searches.{passes}
-use Rattle.pairs.proofs.Slots.{pair_used, pair_unused}
+use Rattle.pairs.proofs.Pairs.{pair_used, pair_unused}
 use Rattle.pairs.proofs.is_large.Goals as goal
 
 pub returns-then-is_empty : goal.returns-then-is_empty

@@ -1,5 +1,4 @@
 -- `free_total`: the frames of the kind's free list, in its part.
-use native.Mathlib.Omega.{arith}
 use Prim.Native.Nat.{ℕ}
 use mathlib.Core.Path.{ap, ◌∙◌}
 use mathlib.Core.List.{List}
@@ -7,18 +6,9 @@ use Rattle.model.specs.Lists.{Slot, entries, sum}
 use Rattle.model.specs.Requests.{without_frames}
 use Rattle.entries.specs.declared.header.WhichList.{WhichList}
 use Rattle.entries.specs.Whole.{lists_in, slots_at}
-use Rattle.entries.proofs.Whole.{lent_fits, lent_slots, lent_tidy}
+use Rattle.entries.proofs.Whole.{lent_slots}
 use Rattle.query_core.proofs.Asked.{total_is}
 use Rattle.query_core.proofs.free_total.Goals as goal
-
-pub offset_bounds-lists-words_of : goal.offset_bounds-lists-words_of
-offset_bounds-lists-words_of c = omega (arith, lent_fits c.args.h c.args.lists.now c.requires c.free_list-which.result c.part.ensures c.words_of.ensures.from c.words_of.ensures.to)
-
-pub slice_bounds-sum-end : goal.slice_bounds-sum-end
-slice_bounds-sum-end c = omega (arith, lent_fits c.args.h c.args.lists.now c.requires c.free_list-which.result c.part.ensures c.words_of.ensures.from c.words_of.ensures.to)
-
-pub sum-frames-requires : goal.sum-frames-requires
-sum-frames-requires c = lent_tidy c.args.h c.args.lists.now c.requires c.free_list-which.result c.part.ensures c.words_of.ensures.from c.words_of.ensures.to
 
 pub returns : goal.returns
 returns c = let l = lists_in c.args.h c.args.lists.now in

@@ -5,7 +5,7 @@ use mathlib.Core.List.{List}
 use Prim.Native.Nat.{◌≤◌}
 use Rattle.model.specs.Lists.{Slot, bound}
 use Rattle.model.specs.Rules.{tidy}
-use Rattle.entries.specs.Part.{slots_of}
+use Rattle.entries.specs.Part.{part_slots}
 use Rattle.entries.proofs.Forms.{as_table, as_pairs, at_sorted, at_early, sorted_after, early_after}
 use Rattle.memory_structs.specs.declared.range.FrameRange.{FrameRange}
 use Rattle.request_search.specs.declared.Chosen.{Chosen}
@@ -19,7 +19,7 @@ Asked k r b x = Chooses b x k r × (entries_left b k r x ≤ bound b)
 pub allocate_from_table-requires : goal.allocate_from_table-requires
 unfolding bound
 allocate_from_table-requires c =
-    let asked : (b : Bool) (x : List Slot) → ◌≡◌ {A = Bool × List Slot} (c.args.part.sorted, slots_of c.args.part c.args.t.now) (b, x) → Asked c.args.chosen c.args.asked b x = λ b. λ x. λ e. subst (λ (p : Bool × List Slot). Asked c.args.chosen c.args.asked p.0 p.1) e (c.requires.chooses, c.requires.t_bound) in
+    let asked : (b : Bool) (x : List Slot) → ◌≡◌ {A = Bool × List Slot} (c.args.part.sorted, part_slots c.args.part c.args.t.now) (b, x) → Asked c.args.chosen c.args.asked b x = λ b. λ x. λ e. subst (λ (p : Bool × List Slot). Asked c.args.chosen c.args.asked p.0 p.1) e (c.requires.chooses, c.requires.t_bound) in
     let a = c.args in
     let e = c.if-part.true in
     let k = asked _ _ (at_sorted (λ b x. (b, x)) a.part.len a.t.now e) in record {
@@ -35,7 +35,7 @@ returns-then-part c = let a = c.args in
 
 pub allocate_from_slots-requires : goal.allocate_from_slots-requires
 allocate_from_slots-requires c =
-    let asked : (b : Bool) (x : List Slot) → ◌≡◌ {A = Bool × List Slot} (c.args.part.sorted, slots_of c.args.part c.args.t.now) (b, x) → Asked c.args.chosen c.args.asked b x = λ b. λ x. λ e. subst (λ (p : Bool × List Slot). Asked c.args.chosen c.args.asked p.0 p.1) e (c.requires.chooses, c.requires.t_bound) in
+    let asked : (b : Bool) (x : List Slot) → ◌≡◌ {A = Bool × List Slot} (c.args.part.sorted, part_slots c.args.part c.args.t.now) (b, x) → Asked c.args.chosen c.args.asked b x = λ b. λ x. λ e. subst (λ (p : Bool × List Slot). Asked c.args.chosen c.args.asked p.0 p.1) e (c.requires.chooses, c.requires.t_bound) in
     let a = c.args in
     let e = c.if-part.false in record {
       pairs = as_pairs c.requires.tidy.part e;

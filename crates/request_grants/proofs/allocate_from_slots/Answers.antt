@@ -1,6 +1,6 @@
 -- `allocate_from_slots`: three operations, one after the other.
 use native.Mathlib.Omega.{arith}
-use Rattle.pairs.proofs.Slots.{pairs_length}
+use Rattle.pairs.proofs.Pairs.{pairs_length}
 use Rattle.request_grants.proofs.Slots.{pairs_emptied, pairs_before, all_steps}
 use Rattle.request_grants.proofs.allocate_from_slots.Goals as goal
 

@@ -4,46 +4,25 @@ use Prim.Native.Nat.{◌+◌, ◌-◌, ◌≤◌}
 use mathlib.Core.Path.{◌≡◌}
 use lib.ListN.{length}
 use Rattle.model.specs.Lists.{entries}
-use Rattle.entries.specs.Part.{slots_of}
+use Rattle.entries.specs.Part.{part_slots}
 use Rattle.entries.proofs.Forms.{part_storable}
-use Rattle.request_grants.specs.Grants.{entries_left}
-use Rattle.request_grants.proofs.Entries.{leftover, one_leftover, no_leftover, leftover_bound, taken_out, left_is}
+use Rattle.request_grants.proofs.Entries.{leftover, one_leftover, no_leftover, leftover_bound, taken_out}
 use Rattle.request_grants.proofs.Kept.{few_entries}
 use Rattle.request_grants.proofs.entries_after.Goals as goal
 use Rattle.request_grants.proofs.entries_after.Goals.{else-chosen-asked, then-chosen-asked}
 
 pub overflow_sub-n : goal.overflow_sub-n
 overflow_sub-n c =
-    let enough : c.args.chosen.many ≤ length (entries (slots_of c.args.part c.args.t.now)) = let a = c.args in
+    let enough : c.args.chosen.many ≤ length (entries (part_slots c.args.part c.args.t.now)) = let a = c.args in
     omega (arith, taken_out a.chosen a.asked (part_storable a.part.sorted a.part.len a.t.now c.requires.part) c.requires.chooses) in
     omega (arith, c.count.ensures, enough)
 
 pub overflow_add-n-then-chosen-asked-2 : goal.overflow_add-n-then-chosen-asked-2
 overflow_add-n-then-chosen-asked-2 c =
-    let few : (length (entries (slots_of c.args.part c.args.t.now)) - c.args.chosen.many) ≤ 512 = omega (arith, few_entries (part_storable c.args.part.sorted c.args.part.len c.args.t.now c.requires.part)) in
-    let with-before : c.if-chosen-asked.n ≡ (length (entries (slots_of c.args.part c.args.t.now)) - c.args.chosen.many) + leftover c.args.chosen.range.start c.args.asked.start = let a = c.args in
+    let few : (length (entries (part_slots c.args.part c.args.t.now)) - c.args.chosen.many) ≤ 512 = omega (arith, few_entries (part_storable c.args.part.sorted c.args.part.len c.args.t.now c.requires.part)) in
+    let with-before : c.if-chosen-asked.n ≡ (length (entries (part_slots c.args.part c.args.t.now)) - c.args.chosen.many) + leftover c.args.chosen.range.start c.args.asked.start = let a = c.args in
     elim c.if-chosen-asked.branch [
       | then-chosen-asked w ↦ omega (arith, c.count.ensures, one_leftover a.chosen.range.start a.asked.start (omega (arith, w.if-chosen-asked.true, c.requires.chooses.from)))
       | else-chosen-asked w ↦ omega (arith, c.count.ensures, no_leftover a.chosen.range.start a.asked.start (omega (arith, w.if-chosen-asked.false)))
     ] in
     omega (arith, with-before, few, leftover_bound c.args.chosen.range.start c.args.asked.start)
-
-pub returns-then-chosen-asked-2 : goal.returns-then-chosen-asked-2
-returns-then-chosen-asked-2 c =
-    let left : entries_left c.args.part.sorted c.args.chosen c.args.asked (slots_of c.args.part c.args.t.now) ≡ (length (entries (slots_of c.args.part c.args.t.now)) - c.args.chosen.many) + leftover c.args.chosen.range.start c.args.asked.start + leftover c.args.asked.end c.args.chosen.range.end = let a = c.args in left_is a.chosen a.asked (part_storable a.part.sorted a.part.len a.t.now c.requires.part) c.requires.chooses in
-    let with-before : c.if-chosen-asked.n ≡ (length (entries (slots_of c.args.part c.args.t.now)) - c.args.chosen.many) + leftover c.args.chosen.range.start c.args.asked.start = let a = c.args in
-    elim c.if-chosen-asked.branch [
-      | then-chosen-asked w ↦ omega (arith, c.count.ensures, one_leftover a.chosen.range.start a.asked.start (omega (arith, w.if-chosen-asked.true, c.requires.chooses.from)))
-      | else-chosen-asked w ↦ omega (arith, c.count.ensures, no_leftover a.chosen.range.start a.asked.start (omega (arith, w.if-chosen-asked.false)))
-    ] in
-    omega (arith, with-before, left, one_leftover c.args.asked.end c.args.chosen.range.end (omega (arith, c.if-chosen-asked-2.true, c.requires.chooses.to)))
-
-pub returns-else-chosen-asked-2 : goal.returns-else-chosen-asked-2
-returns-else-chosen-asked-2 c =
-    let left : entries_left c.args.part.sorted c.args.chosen c.args.asked (slots_of c.args.part c.args.t.now) ≡ (length (entries (slots_of c.args.part c.args.t.now)) - c.args.chosen.many) + leftover c.args.chosen.range.start c.args.asked.start + leftover c.args.asked.end c.args.chosen.range.end = let a = c.args in left_is a.chosen a.asked (part_storable a.part.sorted a.part.len a.t.now c.requires.part) c.requires.chooses in
-    let with-before : c.if-chosen-asked.n ≡ (length (entries (slots_of c.args.part c.args.t.now)) - c.args.chosen.many) + leftover c.args.chosen.range.start c.args.asked.start = let a = c.args in
-    elim c.if-chosen-asked.branch [
-      | then-chosen-asked w ↦ omega (arith, c.count.ensures, one_leftover a.chosen.range.start a.asked.start (omega (arith, w.if-chosen-asked.true, c.requires.chooses.from)))
-      | else-chosen-asked w ↦ omega (arith, c.count.ensures, no_leftover a.chosen.range.start a.asked.start (omega (arith, w.if-chosen-asked.false)))
-    ] in
-    omega (arith, with-before, left, no_leftover c.args.asked.end c.args.chosen.range.end (omega (arith, c.if-chosen-asked-2.false)))

@@ -4,7 +4,7 @@ use mathlib.Core.Path.{◌∙◌}
 use Prim.Native.Nat.{◌+◌, ◌-◌}
 use Rattle.memory_structs.specs.Range.{range}
 use Rattle.model.proofs.Stored.{table_length}
-use Rattle.tables.proofs.Table.{table_inserted}
+use Rattle.tables.proofs.Stores.{table_inserted}
 use Rattle.request_grants.proofs.Rewritten.{rewritten_table, then_left, still_rising, put_after_holds}
 use Rattle.request_grants.proofs.leave_two.Goals as goal
 

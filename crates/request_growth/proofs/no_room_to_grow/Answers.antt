@@ -5,16 +5,8 @@ use lib.Dec.{leb}
 use Rattle.entries.specs.Whole.{lists_in, slots_at}
 use Rattle.model.specs.Lists.{bound}
 use Rattle.entries.specs.declared.Part.{Part}
-use Rattle.request_growth.proofs.Growing.{full_regions, room_sorted, room_early}
+use Rattle.request_growth.proofs.Growing.{room_early}
 use Rattle.request_growth.proofs.no_room_to_grow.Goals as goal
-
-pub returns-then-bound-regions : goal.returns-then-bound-regions
-unfolding lists_in slots_at
-returns-then-bound-regions c = full_regions (lists_in c.args.h c.args.lists.now) (omega (arith, c.if-bound-regions.true, c.bound-bound.ensures, ap (λ (p : Part). bound p.sorted) c.part.ensures, c.count_in-regions.ensures))
-
-pub returns-then-h : goal.returns-then-h
-unfolding lists_in slots_at
-returns-then-h c = room_sorted (lists_in c.args.h c.args.lists.now) (omega (arith, c.if-bound-regions.false, c.bound-bound.ensures, ap (λ (p : Part). bound p.sorted) c.part.ensures, c.count_in-regions.ensures)) c.if-h.true
 
 pub returns : goal.returns
 unfolding lists_in slots_at

@@ -6,7 +6,7 @@ use Rattle.model.specs.Lists.{insert}
 use Rattle.model.specs.Store.{table_slots}
 use Rattle.model.proofs.Stored.{table_length}
 use Rattle.tables.proofs.Search.{length_inserted}
-use Rattle.tables.proofs.Table.{table_inserted}
+use Rattle.tables.proofs.Stores.{table_inserted}
 use Rattle.tables.proofs.Touching.{tidy_rising}
 use Rattle.return_joining.proofs.Rejoined.{table_full, table_room, table_goes}
 use Rattle.return_joining.proofs.add_pair.Goals as goal

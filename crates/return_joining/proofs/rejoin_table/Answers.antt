@@ -12,17 +12,16 @@ use Rattle.tables.proofs.Search.{range_at_holds}
 use Rattle.return_joining.proofs.Rejoined.{found_pair, found_above, found_under, found_neither, joined}
 use Rattle.return_joining.proofs.rejoin_table.Goals as goal
 
+pub invariant_of-table : goal.invariant_of-table
+invariant_of-table c = record { fits = omega (arith, c.requires.table.fits, c.requires.table.size) }
+
 pub starting_at-requires : goal.starting_at-requires
-starting_at-requires c = record {
-  len_in_bounds = omega (arith, c.requires.table.fits, c.requires.table.size);
-  t_value = c.requires.t_value;
-}
+starting_at-requires c = c.requires.t_value
 
 pub entry-requires : goal.entry-requires
 entry-requires c =
     let above : Some c.in-Some.i ≡ first_where (λ (r : FrameRange). eqb r.start (c.args.range.end + 1)) (table_slots c.args.len c.args.t.now) = sym c.in-Some.is ∙ c.starting_at.ensures in
-    let inside : c.in-Some.i < c.args.len = found_pair _ _ _ _ above in
-    omega (arith, inside, c.requires.table.fits, c.requires.table.size)
+    found_pair _ _ _ _ above
 
 pub replace_at-requires : goal.replace_at-requires
 replace_at-requires c =
@@ -41,16 +40,12 @@ returns-in-Some c =
     _ (ap (λ (y : FrameRange). range a.range.start y.end) (c.entry.ensures ∙ range_at_holds a.len c.in-Some.i a.t.now inside)) _ c.replace_at.ensures
 
 pub ending_below-requires : goal.ending_below-requires
-ending_below-requires c = record {
-  len_in_bounds = omega (arith, c.requires.table.fits, c.requires.table.size);
-  t_value = c.requires.t_value;
-}
+ending_below-requires c = c.requires.t_value
 
 pub entry-requires-in-Some-ending_below : goal.entry-requires-in-Some-ending_below
 entry-requires-in-Some-ending_below c =
     let under : Some c.in-Some-ending_below.i ≡ first_where (λ (r : FrameRange). eqb (r.end + 1) c.args.range.start) (table_slots c.args.len c.args.t.now) = sym c.in-Some-ending_below.is ∙ c.ending_below.ensures in
-    let inside : c.in-Some-ending_below.i < c.args.len = found_pair _ _ _ _ under in
-    omega (arith, inside, c.requires.table.fits, c.requires.table.size)
+    found_pair _ _ _ _ under
 
 pub replace_at-requires-in-Some-ending_below : goal.replace_at-requires-in-Some-ending_below
 replace_at-requires-in-Some-ending_below c =

@@ -7,11 +7,11 @@ use Rattle.table_rules.proofs.covers_all.Goals as goal
 pub loop-i-init : goal.loop-i-init
 loop-i-init c = reached_start _ _ _ _ c.requires.chunks_value c.requires.regions_value
 
-pub returns-then-regions_len-j : goal.returns-then-regions_len-j
-returns-then-regions_len-j c = no_region c.loop-i.invariant (omega arith) c.if-regions_len-j.true
+pub returns-then-regions-j : goal.returns-then-regions-j
+returns-then-regions-j c = no_region c.loop-i.invariant (omega arith) c.if-regions-j.true
 
-pub loop-i-preserved-then-regions-j : goal.loop-i-preserved-then-regions-j
-loop-i-preserved-then-regions-j c = region_below c.loop-i.invariant (omega arith) (omega arith) (omega (arith, c.max-first.ensures))
+pub loop-i-preserved-then-regions-j-2 : goal.loop-i-preserved-then-regions-j-2
+loop-i-preserved-then-regions-j-2 c = region_below c.loop-i.invariant (omega arith) (omega arith) (omega (arith, c.max-first.ensures))
 
 pub returns-then-first-regions : goal.returns-then-first-regions
 returns-then-first-regions c = in_gap c.loop-i.invariant (omega arith) (omega arith) (omega (arith, c.max-first.ensures))
@@ -21,7 +21,7 @@ loop-i-preserved-then-chunks-i c = chunk_in c.loop-i.invariant (omega arith) (om
 
 pub overflow_add-from-else-chunks-i : goal.overflow_add-from-else-chunks-i
 overflow_add-from-else-chunks-i c = let a = c.args in
-    omega (arith, (tidy_pair a.regions_len a.regions.now c.requires.regions_value c.loop-i.j (omega arith)).low)
+    omega (arith, (tidy_pair a.regions.len a.regions.words.now c.requires.regions_value c.loop-i.j (omega arith)).low)
 
 pub loop-i-preserved : goal.loop-i-preserved
 loop-i-preserved c = chunk_on c.loop-i.invariant (omega arith) (omega arith) (omega (arith, c.max-first.ensures)) (omega (arith, c.max-first.ensures)) c.if-chunks-i.false

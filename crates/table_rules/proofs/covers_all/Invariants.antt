@@ -4,7 +4,7 @@ use Rattle.table_rules.proofs.Walks.{Reached}
 use Rattle.table_rules.proofs.covers_all.Given as goal
 
 abbrev pub invariant-loop-i : goal.invariant-loop-i
-invariant-loop-i l = Reached l.chunks_len l.chunks l.regions_len l.regions l.i l.j l.from
+invariant-loop-i l = Reached l.chunks.len l.chunks.words.now l.regions.len l.regions.words.now l.i l.j l.from
 
 abbrev pub decreases-loop-i : goal.decreases-loop-i
-decreases-loop-i l = (l.chunks_len - l.i) + (l.regions_len - l.j)
+decreases-loop-i l = (l.chunks.len - l.i) + (l.regions.len - l.j)

@@ -3,4 +3,4 @@ use Rattle.table_rules.proofs.Spacing.{InOrder}
 use Rattle.table_rules.proofs.is_tidy.Given as goal
 
 abbrev pub invariant-loop-i : goal.invariant-loop-i
-invariant-loop-i l = InOrder l.i l.t
+invariant-loop-i l = InOrder l.i l.table.words.now

@@ -15,8 +15,8 @@ loop-i-preserved c = second_below c.loop-i.invariant (omega arith) (omega arith)
 pub returns-else-u-j : goal.returns-else-u-j
 returns-else-u-j c = pair_meets c.loop-i.invariant (omega arith) (omega arith) c.if-t-i.false c.if-u-j.false
 
-pub returns-else-j-u_len : goal.returns-else-j-u_len
-returns-else-j-u_len c = second_ends c.loop-i.invariant c.if-j-u_len.false
+pub returns-else-j-u : goal.returns-else-j-u
+returns-else-j-u c = second_ends c.loop-i.invariant c.if-j-u.false
 
 pub returns-after-loop-i : goal.returns-after-loop-i
 returns-after-loop-i c = first_ends c.loop-i.invariant c.loop-i-test.false

@@ -4,7 +4,7 @@ use Rattle.table_rules.proofs.Meeting.{Passed}
 use Rattle.table_rules.proofs.meet.Given as goal
 
 abbrev pub invariant-loop-i : goal.invariant-loop-i
-invariant-loop-i l = Passed l.t_len l.t l.u_len l.u l.i l.j
+invariant-loop-i l = Passed l.t.len l.t.words.now l.u.len l.u.words.now l.i l.j
 
 abbrev pub decreases-loop-i : goal.decreases-loop-i
-decreases-loop-i l = (l.t_len - l.i) + (l.u_len - l.j)
+decreases-loop-i l = (l.t.len - l.i) + (l.u.len - l.j)

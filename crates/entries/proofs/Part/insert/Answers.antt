@@ -7,7 +7,7 @@ use Rattle.model.specs.Rules.{slotted}
 use Rattle.model.specs.Store.{table_slots}
 use Rattle.model.proofs.Stored.{table_length}
 use Rattle.tables.proofs.Search.{length_inserted}
-use Rattle.tables.proofs.Table.{table_inserted}
+use Rattle.tables.proofs.Stores.{table_inserted}
 use Rattle.entries.proofs.Forms.{as_table, as_pairs, at_sorted, room, sorted_after, early_after}
 use Rattle.entries.proofs.Part.insert.Goals as goal
 

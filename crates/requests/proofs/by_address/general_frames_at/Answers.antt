@@ -1,13 +1,12 @@
 -- `general_frames_at`: 1, 2, or by what the search in the general list finds.
 use Rattle.std.proofs.Common.{rules}
-use mathlib.Core.Path.{◌≡◌, sym, ap, ◌∙◌}
+use mathlib.Core.Path.{◌≡◌, sym, ◌∙◌}
 use Rattle.std.specs.Prelude.{Err}
 use Rattle.entries.specs.Whole.{lists_in, slots_at}
-use Rattle.request_search.specs.Searches.{found_of}
 use Rattle.request_grants.proofs.Chosen.{search_chooses}
-use Rattle.entries.proofs.Whole.{does_as, does_refuse}
-use Rattle.requests.proofs.Asked.{some_frames, general_refused, general_on, does_miss}
-use Rattle.requests.proofs.Searched.{only_not, only_missing, only_short, only_chunks}
+use Rattle.entries.proofs.Whole.{does_as}
+use Rattle.requests.proofs.Asked.{some_frames, general_refused, general_on}
+use Rattle.requests.proofs.Searched.{said_chunks, only_chunks, only_refused}
 use Rattle.requests.proofs.by_address.general_frames_at.Goals as goal
 
 pub returns-in_err-asked : goal.returns-in_err-asked
@@ -18,32 +17,20 @@ returns-in_err-asked c =
 pub find_in-requires : goal.find_in-requires
 find_in-requires c = record { ruled = c.requires; start_le_end = some_frames c.args.frame c.args.num_frames _ (sym c.asked_range.ensures ∙ c.in_ok-asked.was) }
 
+pub returns-in_err-chosen : goal.returns-in_err-chosen
+unfolding lists_in slots_at
+returns-in_err-chosen c =
+    let e : c.from_residual-in_err-chosen.result ≡ Err c.in_err-chosen.field-0.0 = search rules in
+    rw e (does_as (general_on c.args.frame c.args.num_frames (lists_in c.args.h c.args.lists.now) _ (sym c.asked_range.ensures ∙ c.in_ok-asked.was)) (only_refused c.args.h c.args.lists.now c.requires c.in_ok-asked.asked _ _ (sym c.in_err-chosen.was ∙ c.find_in.ensures)))
+
 pub take_in-requires : goal.take_in-requires
-unfolding found_of lists_in slots_at
+unfolding lists_in slots_at
 take_in-requires c = record {
   ruled = c.requires;
-  chooses = search_chooses c.args.h.sorted (lists_in c.args.h c.args.lists.now).general_free c.in-Chunks.chosen c.in_ok-asked.asked (some_frames c.args.frame c.args.num_frames _ (sym c.asked_range.ensures ∙ c.in_ok-asked.was)) (sym c.find_in.ensures ∙ ap found_of c.in-Chunks.is);
+  chooses = search_chooses c.args.h.sorted (lists_in c.args.h c.args.lists.now).general_free c.in_ok-chosen.chosen c.in_ok-asked.asked (some_frames c.args.frame c.args.num_frames _ (sym c.asked_range.ensures ∙ c.in_ok-asked.was)) (said_chunks _ _ (sym c.in_ok-chosen.was ∙ c.find_in.ensures));
 }
 
-pub returns-in-NotFound : goal.returns-in-NotFound
-unfolding lists_in slots_at found_of
-returns-in-NotFound c =
-    does_refuse c.args.h c.args.lists.now c.requires 12 _
-    (general_on c.args.frame c.args.num_frames (lists_in c.args.h c.args.lists.now) _ (sym c.asked_range.ensures ∙ c.in_ok-asked.was) ∙ only_not (lists_in c.args.h c.args.lists.now) c.in_ok-asked.asked (sym c.find_in.ensures ∙ ap found_of c.in-NotFound.is))
-
-pub returns-in-Missing : goal.returns-in-Missing
-unfolding lists_in slots_at found_of
-returns-in-Missing c =
-    does_miss c.args.h c.args.lists.now c.requires _ _ _
-    (general_on c.args.frame c.args.num_frames (lists_in c.args.h c.args.lists.now) _ (sym c.asked_range.ensures ∙ c.in_ok-asked.was) ∙ only_missing (lists_in c.args.h c.args.lists.now) c.in_ok-asked.asked _ _ (sym c.find_in.ensures ∙ ap found_of c.in-Missing.is))
-
-pub returns-in-TooShort : goal.returns-in-TooShort
-unfolding lists_in slots_at found_of
-returns-in-TooShort c =
-    does_refuse c.args.h c.args.lists.now c.requires 17 _
-    (general_on c.args.frame c.args.num_frames (lists_in c.args.h c.args.lists.now) _ (sym c.asked_range.ensures ∙ c.in_ok-asked.was) ∙ only_short (lists_in c.args.h c.args.lists.now) c.in_ok-asked.asked (sym c.find_in.ensures ∙ ap found_of c.in-TooShort.is))
-
-pub returns-in-Chunks : goal.returns-in-Chunks
-unfolding found_of lists_in slots_at
-returns-in-Chunks c =
-    does_as (general_on c.args.frame c.args.num_frames (lists_in c.args.h c.args.lists.now) _ (sym c.asked_range.ensures ∙ c.in_ok-asked.was) ∙ only_chunks (lists_in c.args.h c.args.lists.now) c.in_ok-asked.asked c.in-Chunks.chosen (sym c.find_in.ensures ∙ ap found_of c.in-Chunks.is)) c.take_in.ensures
+pub returns : goal.returns
+unfolding lists_in slots_at
+returns c =
+    does_as (general_on c.args.frame c.args.num_frames (lists_in c.args.h c.args.lists.now) _ (sym c.asked_range.ensures ∙ c.in_ok-asked.was) ∙ only_chunks (lists_in c.args.h c.args.lists.now) c.in_ok-asked.asked _ (sym c.in_ok-chosen.was ∙ c.find_in.ensures)) c.take_in.ensures
