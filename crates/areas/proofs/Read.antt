@@ -1,10 +1,10 @@
 -- Three words each: the value at an index, how many there are, and a walk over them (`run` reads its calls so).
-use Prim.Native.Nat.{ℕ, zero, suc, ◌+◌, ◌*◌, ◌/◌, ◌≤◌, ◌<◌}
+use Prim.Native.Nat.{ℕ, zero, suc, ◌+◌, ◌/◌, ◌≤◌, ◌<◌}
 use native.Mathlib.Omega.{arith}
-use native.Mathlib.Numerals.{unary_clauses}
 use mathlib.Core.Path.{◌≡◌, refl}
 use mathlib.Core.List.{List, [], ◌∷◌}
 use lib.ListN.{length, get_or, drop}
+use Rattle.std.specs.Simd.{first_chunks}
 use Rattle.areas.specs.Areas.{triples}
 
 -- three words each: the area at i, and how many there are
@@ -16,20 +16,15 @@ module _ {A : Type 0} (f : ℕ → ℕ → ℕ → A) where
   triples_count (x ∷ y ∷ []) = refl
   triples_count (x ∷ y ∷ k ∷ ws) = omega (arith, triples_count ws)
 
-  triple_at : (ws : List ℕ) (i j : ℕ) (d : A) → i < length ws / 3 → j ≡ 3 * i → get_or (triples f ws) i d ≡ f (get_or ws j 0) (get_or ws (suc j) 0) (get_or ws (suc (suc j)) 0)
+  pub chunk_at : (ws : List ℕ) (n i : ℕ) (d : A) (e : List ℕ) → i < n → n ≤ length ws / 3 →
+      get_or (triples f ws) i d ≡ f (get_or (get_or (first_chunks 3 n ws) i e) 0 0) (get_or (get_or (first_chunks 3 n ws) i e) 1 0) (get_or (get_or (first_chunks 3 n ws) i e) 2 0)
   unfolding triples
-  triple_at [] i j d h e = absurd (omega arith)
-  triple_at (x ∷ []) i j d h e = absurd (omega arith)
-  triple_at (x ∷ y ∷ []) i j d h e = absurd (omega arith)
-  triple_at (x ∷ y ∷ k ∷ ws) zero zero d h e = refl
-  triple_at (x ∷ y ∷ k ∷ ws) zero (suc j) d h e = absurd (omega arith)
-  triple_at (x ∷ y ∷ k ∷ ws) (suc i) zero d h e = absurd (omega arith)
-  triple_at (x ∷ y ∷ k ∷ ws) (suc i) (suc zero) d h e = absurd (omega arith)
-  triple_at (x ∷ y ∷ k ∷ ws) (suc i) (suc (suc zero)) d h e = absurd (omega arith)
-  triple_at (x ∷ y ∷ k ∷ ws) (suc i) (suc (suc (suc j))) d h e = triple_at ws i j d (omega arith) (omega arith)
-
-  pub three_words : (ws : List ℕ) (i : ℕ) (d : A) → i < length ws / 3 → get_or (triples f ws) i d ≡ f (get_or ws (3 * i) 0) (get_or ws (3 * i + 1) 0) (get_or ws (3 * i + 2) 0)
-  three_words ws i d h = simp unary_clauses (triple_at ws i (3 * i) d h refl)
+  chunk_at ws zero i d e h l = absurd (omega arith)
+  chunk_at [] (suc n) i d e h l = absurd (omega arith)
+  chunk_at (x ∷ []) (suc n) i d e h l = absurd (omega arith)
+  chunk_at (x ∷ y ∷ []) (suc n) i d e h l = absurd (omega arith)
+  chunk_at (x ∷ y ∷ k ∷ ws) (suc n) zero d e h l = refl
+  chunk_at (x ∷ y ∷ k ∷ ws) (suc n) (suc i) d e h l = chunk_at ws n i d e (omega arith) (omega arith)
 
 -- the three words from i on, and those after them
 module _ {A : Type 0} (f : ℕ → ℕ → ℕ → A) where

@@ -1,92 +1,122 @@
--- The turns of collecting and carving: what is read so far, and one area more.
-use Prim.Native.Nat.{ℕ, ◌+◌, ◌<◌}
-use mathlib.Core.Path.{◌≡◌, refl, sym, ap, ◌∙◌}
-use mathlib.Core.Bool.{Bool, true, false, ◌||◌, or-false}
-use mathlib.Core.List.{List, [], ◌∷◌, ◌++◌, append_assoc, append-nil}
-use lib.ListN.{length, get_or, take}
-use Rattle.std.proofs.lemmas.List.{take_more}
+-- The turns of collecting and carving: what was read so far, and the areas to come.
+use Rattle.std.proofs.Common.{◌≡◌, ℕ, ◌+◌, ◌≤◌, ◌<◌, Bool, true, false, ◌||◌, List, [], ◌∷◌, ◌++◌, length, get_or, drop, refl, sym, ap, ◌∙◌, arith, add-one, drop-cons, length-append, append-nil, Ok, Err}
+use mathlib.Core.Bool.{or-false}
+use mathlib.Core.List.{append_assoc}
+use lib.ListN.{drop_of_length-le}
+use borrow.Author.Tests.{lt-ltb, le-ltb}
+use Rattle.std.specs.Prelude.{if◌then◌else◌}
 use Rattle.memory_structs.specs.Range.{is_empty}
 use Rattle.memory_structs.specs.declared.range.FrameRange.{FrameRange}
 use Rattle.model.specs.Lists.{any_of}
-use Rattle.model.specs.Boot.{Extent, general, reserved, marked, reserved_of, all_pieces}
+use Rattle.model.specs.Boot.{marked, reserved_of, all_pieces}
 use Rattle.model.specs.Carving.{pieces}
 use Rattle.model.specs.declared.Kind.TheVariants.{General, Reserved}
-use Rattle.carving.specs.declared.RangeList.{RangeList}
-use Rattle.carving.specs.Ranges.{listed, Appended}
+use Rattle.model.specs.declared.refusals.Refusal.TheVariants.{TooManyReservedAreas, EmptyReservedArea, OutOfBounds}
 use Rattle.areas.specs.declared.BootArea.{BootArea}
-use Rattle.areas.specs.declared.Collected.{Collected}
-use Rattle.areas.specs.Areas.{extents, any_outside, reserved_in, pieces_in, no_area, CollectedOf, OneAreaMore}
+use Rattle.areas.specs.Areas.{extents, any_outside, reserved_in, pieces_in, no_area, collected}
 
--- over two lists of areas
-extents_over : (xs ys : List BootArea) → extents (xs ++ ys) ≡ extents xs ++ extents ys
-unfolding extents
-extents_over [] ys = refl
-extents_over (x ∷ xs) ys = ap (λ (l : List Extent). marked x.kind (x.frames) ∷ l) (extents_over xs ys)
+-- the reserved areas read so far, whether one of them is empty, and whether 2 refuses one area of all those read
+pub record Collecting (xs : List BootArea) (reserved : List FrameRange) (empty outside : Bool) (i : ℕ) : Type 0 where
+  pub few : length reserved ≤ 32
+  pub reserved_are : reserved_in xs ≡ reserved ++ reserved_in (drop i xs)
+  pub empty_is : any_of is_empty (reserved_in xs) ≡ (empty || any_of is_empty (reserved_in (drop i xs)))
+  pub outside_is : any_outside xs ≡ (outside || any_outside (drop i xs))
 
-reserved_over : (xs ys : List Extent) → reserved_of (xs ++ ys) ≡ reserved_of xs ++ reserved_of ys
-unfolding reserved_of
-reserved_over [] ys = refl
-reserved_over (general r ∷ xs) ys = reserved_over xs ys
-reserved_over (reserved r ∷ xs) ys = ap (λ (l : List FrameRange). r ∷ l) (reserved_over xs ys)
+-- the pieces of the areas carved so far
+abbrev pub Carving : List FrameRange → List BootArea → List FrameRange → ℕ → Type 0
+Carving rs xs ps i = pieces_in rs xs ≡ ps ++ pieces_in rs (drop i xs)
 
-pieces_over : (rs : List FrameRange) (xs ys : List Extent) → all_pieces rs (xs ++ ys) ≡ all_pieces rs xs ++ all_pieces rs ys
-unfolding all_pieces
-pieces_over rs [] ys = refl
-pieces_over rs (general r ∷ xs) ys = ap (λ (l : List FrameRange). pieces rs r ++ l) (pieces_over rs xs ys) ∙ sym (append_assoc (pieces rs r) (all_pieces rs xs) (all_pieces rs ys))
-pieces_over rs (reserved r ∷ xs) ys = pieces_over rs xs ys
+or_assoc : (a b c : Bool) → (a || (b || c)) ≡ ((a || b) || c)
+or_assoc true b c = refl
+or_assoc false b c = refl
 
-either_of : (a b c : Bool) → (a || (b || c)) ≡ ((a || b) || c)
-either_of true b c = refl
-either_of false b c = refl
+module _ (xs : List BootArea) where
+  pub collecting_start : Collecting xs [] false false 0
+  collecting_start = record { few = omega arith; reserved_are = refl; empty_is = refl; outside_is = refl }
 
-any_over : (p : FrameRange → Bool) (xs ys : List FrameRange) → any_of p (xs ++ ys) ≡ (any_of p xs || any_of p ys)
-unfolding any_of
-any_over p [] ys = refl
-any_over p (r ∷ xs) ys = ap (λ (b : Bool). p r || b) (any_over p xs ys) ∙ either_of (p r) (any_of p xs) (any_of p ys)
+  -- 5
+  many_reserved : 32 < length (reserved_in xs) → Err TooManyReservedAreas ≡ collected xs
+  unfolding collected
+  many_reserved h = rw (lt-ltb 32 (length (reserved_in xs)) h)
 
-outside_over : (xs : List BootArea) (a : BootArea) → any_outside (xs ++ a ∷ []) ≡ (any_outside xs || a.outside)
-unfolding any_outside
-outside_over [] a = or-false a.outside
-outside_over (x ∷ xs) a = ap (λ (b : Bool). x.outside || b) (outside_over xs a) ∙ either_of x.outside (any_outside xs) a.outside
+  module _ (i : ℕ) (end : length xs ≤ i) where
+    none : drop i xs ≡ []
+    none = drop_of_length-le xs {i = i} end
 
-reserved_in_holds : (xs : List BootArea) (a : BootArea) → reserved_in (xs ++ a ∷ []) ≡ reserved_in xs ++ reserved_in (a ∷ [])
-reserved_in_holds xs a = ap reserved_of (extents_over xs (a ∷ [])) ∙ reserved_over (extents xs) (extents (a ∷ []))
+    -- 4, then 2
+    module _ (reserved : List FrameRange) (empty outside : Bool) (t : Collecting xs reserved empty outside i) where
+      collecting_end : collected xs ≡ (if empty then Err EmptyReservedArea else if outside then Err OutOfBounds else Ok (record { items = reserved }))
+      unfolding extents reserved_of any_of any_outside collected
+      collecting_end =
+          let r = t.reserved_are ∙ ap (λ (l : List BootArea). reserved ++ reserved_in l) none ∙ append-nil reserved in
+          let e = t.empty_is ∙ ap (λ (l : List BootArea). empty || any_of is_empty (reserved_in l)) none ∙ or-false empty in
+          let o = t.outside_is ∙ ap (λ (l : List BootArea). outside || any_outside l) none ∙ or-false outside in
+          rw (e, o, r, le-ltb 32 (length reserved) t.few)
 
--- no area yet
-pub nothing_yet : (c : Collected) → c.reserved ≡ listed [] → c.any_empty ≡ false → c.any_outside ≡ false → CollectedOf [] c
-unfolding extents reserved_of any_of any_outside
-nothing_yet c r e o = record { reserved_are = r; empty_is = e; outside_is = o }
+      pub one_empty : empty ≡ true → Err EmptyReservedArea ≡ collected xs
+      one_empty e = sym (collecting_end ∙ rw e)
 
-module _ (rs : List FrameRange) (a : BootArea) (before after : RangeList) where
-  pub pieces_general : a.kind ≡ General → Appended before (pieces rs a.frames) after → Appended before (pieces_in rs (a ∷ [])) after
-  unfolding extents marked all_pieces
-  pieces_general k s = rw k (λ xs p. s xs p ∙ ap (λ (l : List FrameRange). listed (xs ++ l)) (sym (append-nil (pieces rs a.frames))))
+      module _ (e : empty ≡ false) where
+        pub one_outside : outside ≡ true → Err OutOfBounds ≡ collected xs
+        one_outside o = sym (collecting_end ∙ rw (e, o))
 
-  pub pieces_reserved : a.kind ≡ Reserved → after ≡ before → Appended before (pieces_in rs (a ∷ [])) after
-  unfolding extents marked all_pieces
-  pieces_reserved k e = rw k (λ xs p. e ∙ p ∙ ap listed (sym (append-nil xs)))
+        pub all_collected : outside ≡ false → Ok (record { items = reserved }) ≡ collected xs
+        all_collected o = sym (collecting_end ∙ rw (e, o))
 
-collected : (xs : List BootArea) (a : BootArea) (c d : Collected) → CollectedOf xs c → OneAreaMore c a d → CollectedOf (xs ++ a ∷ []) d
-collected xs a c d before s =
-    let rs = reserved_in_holds xs a in
-    record {
-      reserved_are = s.appended (reserved_in xs) before.reserved_are ∙ ap listed (sym rs);
-      empty_is = s.empty_is ∙ ap (λ (b : Bool). b || any_of is_empty (reserved_in (a ∷ []))) before.empty_is ∙ sym (ap (any_of is_empty) rs ∙ any_over is_empty (reserved_in xs) (reserved_in (a ∷ [])));
-      outside_is = s.outside_is ∙ ap (λ (b : Bool). b || a.outside) before.outside_is ∙ sym (outside_over xs a);
-    }
+    pub carving_end : (rs ps : List FrameRange) → Carving rs xs ps i → ps ≡ pieces_in rs xs
+    unfolding extents all_pieces
+    carving_end rs ps t = sym (t ∙ ap (λ (l : List BootArea). ps ++ pieces_in rs l) none ∙ append-nil ps)
 
-carved : (rs : List FrameRange) (xs : List BootArea) (a : BootArea) (before after : RangeList) → before ≡ listed (pieces_in rs xs) → Appended before (pieces_in rs (a ∷ [])) after → after ≡ listed (pieces_in rs (xs ++ a ∷ []))
-carved rs xs a before after e s =
-    s (pieces_in rs xs) e ∙ ap listed (sym (ap (all_pieces rs) (extents_over xs (a ∷ [])) ∙ pieces_over rs (extents xs) (extents (a ∷ []))))
+  module _ (i : ℕ) (h : i < length xs) (a : BootArea) (is : a ≡ get_or xs i no_area) where
+    here : drop i xs ≡ a ∷ drop (i + 1) xs
+    here = rw (is, add-one) (drop-cons xs i no_area h)
 
--- the loops: the areas before i, and the one at i
-module _ (xs : List BootArea) (i : ℕ) (h : i < length xs) (a : BootArea) (is : a ≡ get_or xs i no_area) where
-  pub collected_next : (c d : Collected) → CollectedOf (take i xs) c → OneAreaMore c a d → CollectedOf (take (i + 1) xs) d
-  collected_next c d before s = rw (take_more xs i no_area h, ← is) (collected (take i xs) a c d before s)
+    module _ (reserved : List FrameRange) (empty outside : Bool) (t : Collecting xs reserved empty outside i) where
+      outside_next : any_outside xs ≡ ((outside || a.outside) || any_outside (drop (i + 1) xs))
+      unfolding any_outside
+      outside_next = t.outside_is ∙ ap (λ (l : List BootArea). outside || any_outside l) here ∙ or_assoc outside a.outside (any_outside (drop (i + 1) xs))
 
-  pub carved_next : (rs : List FrameRange) (before after : RangeList) → before ≡ listed (pieces_in rs (take i xs)) → Appended before (pieces_in rs (a ∷ [])) after → after ≡ listed (pieces_in rs (take (i + 1) xs))
-  carved_next rs before after e s = rw (take_more xs i no_area h, ← is) (carved rs (take i xs) a before after e s)
+      pub collect_general : a.kind ≡ General → Collecting xs reserved empty (outside || a.outside) (i + 1)
+      unfolding extents marked reserved_of
+      collect_general k = record {
+        few = t.few;
+        reserved_are = t.reserved_are ∙ ap (λ (l : List BootArea). reserved ++ reserved_in l) here ∙ rw k;
+        empty_is = t.empty_is ∙ ap (λ (l : List BootArea). empty || any_of is_empty (reserved_in l)) here ∙ rw k;
+        outside_is = outside_next;
+      }
 
-pub carved_none : (rs : List FrameRange) → [] ≡ pieces_in rs []
-unfolding extents all_pieces
-carved_none rs = refl
+      module _ (k : a.kind ≡ Reserved) where
+        one_more : reserved_in xs ≡ (reserved ++ a.frames ∷ []) ++ reserved_in (drop (i + 1) xs)
+        unfolding extents marked reserved_of
+        one_more = t.reserved_are ∙ ap (λ (l : List BootArea). reserved ++ reserved_in l) here ∙ rw k (sym (append_assoc reserved (a.frames ∷ []) (reserved_in (drop (i + 1) xs))))
+
+        pub collect_reserved : (next : List FrameRange) → next ≡ reserved ++ a.frames ∷ [] → length reserved < 32 → (some : Bool) → some ≡ (empty || is_empty a.frames) →
+            Collecting xs next some (outside || a.outside) (i + 1)
+        unfolding extents marked reserved_of any_of
+        collect_reserved next e few some is_some = record {
+          few = omega (arith, ap length e, length-append reserved (a.frames ∷ []));
+          reserved_are = rw e one_more;
+          empty_is =
+              t.empty_is ∙ ap (λ (l : List BootArea). empty || any_of is_empty (reserved_in l)) here
+              ∙ rw (k, is_some) (or_assoc empty (is_empty a.frames) (any_of is_empty (reserved_in (drop (i + 1) xs))));
+          outside_is = outside_next;
+        }
+
+        pub collect_many : length reserved ≡ 32 → Err TooManyReservedAreas ≡ collected xs
+        collect_many e = many_reserved (omega (arith, ap length one_more, length-append (reserved ++ a.frames ∷ []) (reserved_in (drop (i + 1) xs)), length-append reserved (a.frames ∷ [])))
+
+    module _ (rs ps : List FrameRange) (t : Carving rs xs ps i) where
+      pub carve_reserved : a.kind ≡ Reserved → Carving rs xs ps (i + 1)
+      unfolding extents marked all_pieces
+      carve_reserved k = t ∙ ap (λ (l : List BootArea). ps ++ pieces_in rs l) here ∙ rw k
+
+      module _ (k : a.kind ≡ General) where
+        carved : pieces_in rs xs ≡ (ps ++ pieces rs a.frames) ++ pieces_in rs (drop (i + 1) xs)
+        unfolding extents marked all_pieces
+        carved = t ∙ ap (λ (l : List BootArea). ps ++ pieces_in rs l) here ∙ rw k (sym (append_assoc ps (pieces rs a.frames) (pieces_in rs (drop (i + 1) xs))))
+
+        pub carve_general : (next : List FrameRange) → next ≡ ps ++ pieces rs a.frames → Carving rs xs next (i + 1)
+        carve_general next e = rw e carved
+
+        pub carve_many : 32 < length (ps ++ pieces rs a.frames) → 32 < length (pieces_in rs xs)
+        carve_many m = omega (arith, ap length carved, length-append (ps ++ pieces rs a.frames) (pieces_in rs (drop (i + 1) xs)))

@@ -1,5 +1,7 @@
 -- The areas of a boot map: as structs, and as a lent list of words. The words in quotes are document 01's.
-use Rattle.std.specs.Prelude.{ℕ, ◌≡◌, Bool, false, ◌||◌, List, [], ◌∷◌, map}
+use Rattle.std.specs.Prelude.{ℕ, Bool, false, ◌||◌, List, [], ◌∷◌, map, length, ltb, Result, Ok, Err}
+use Rattle.std.specs.Prelude.{if◌then◌else◌}
+use Rattle.arrayvec.specs.ArrayVec.{ArrayVec}
 use Rattle.memory_structs.specs.Range.{range, empty, is_empty, above_top, touched, bytes_out_of_bounds}
 use Rattle.memory_structs.specs.declared.range.FrameRange.{FrameRange}
 use Rattle.model.specs.Lists.{any_of}
@@ -8,12 +10,12 @@ use Rattle.model.specs.declared.Area.{Area}
 use Rattle.model.specs.declared.ByteArea.{ByteArea}
 use Rattle.model.specs.declared.Kind.{Kind}
 use Rattle.model.specs.declared.Kind.TheVariants.{General}
+use Rattle.model.specs.declared.refusals.Refusal.{Refusal}
+use Rattle.model.specs.declared.refusals.Refusal.TheVariants.{TooManyReservedAreas, EmptyReservedArea, OutOfBounds}
 use Rattle.model.specs.Words.{kind_of_word}
-use Rattle.carving.specs.Ranges.{listed, Appended}
 use Rattle.areas.specs.declared.AreaUnit.{AreaUnit}
 use Rattle.areas.specs.declared.AreaUnit.TheVariants.{Frames, Bytes}
 use Rattle.areas.specs.declared.BootArea.{BootArea}
-use Rattle.areas.specs.declared.Collected.{Collected}
 
 -- three words each; one or two words that are left over are nothing
 unfoldable pub triples : {A : Type 0} → (ℕ → ℕ → ℕ → A) → List ℕ → List A
@@ -79,14 +81,9 @@ reserved_in xs = reserved_of (extents xs)
 abbrev pub pieces_in : List FrameRange → List BootArea → List FrameRange
 pieces_in rs xs = all_pieces rs (extents xs)
 
--- what is collected of these areas
-pub record CollectedOf (xs : List BootArea) (c : Collected) : Type 0 where
-  pub reserved_are : c.reserved ≡ listed (reserved_in xs)
-  pub empty_is : c.any_empty ≡ any_of is_empty (reserved_in xs)
-  pub outside_is : c.any_outside ≡ any_outside xs
-
--- and of one area more
-pub record OneAreaMore (before : Collected) (a : BootArea) (after : Collected) : Type 0 where
-  pub appended : Appended before.reserved (reserved_in (a ∷ [])) after.reserved
-  pub empty_is : after.any_empty ≡ (before.any_empty || any_of is_empty (reserved_in (a ∷ [])))
-  pub outside_is : after.any_outside ≡ (before.any_outside || a.outside)
+-- "5, 4, 2": the reserved areas, or what refuses a boot before any area is carved
+unfoldable pub collected : List BootArea → Result (ArrayVec FrameRange) Refusal
+collected xs =
+    if ltb 32 (length (reserved_in xs)) then Err TooManyReservedAreas else
+    if any_of is_empty (reserved_in xs) then Err EmptyReservedArea else
+    if any_outside xs then Err OutOfBounds else Ok (record { items = reserved_in xs })

@@ -1,20 +1,21 @@
 // The areas of a boot map, in any form: document 01, "Areas come as a lent list of start, end and kind".
 #![tactic(auto)]
 
-ghost use Rattle.std.specs.Prelude.{◌≡◌, ◌<◌, List, map, length, get_or};
+ghost use Rattle.std.specs.Prelude.{◌≡◌, ◌<◌, List, map, length, get_or, IfOk, IfErr, OnErr};
 ghost use Rattle.model.specs.Calls.{Call, boot_call, boot_bytes_call};
-ghost use Rattle.carving.specs.Ranges.{listed, ranges_in, Carvable};
-ghost use Rattle.areas.specs.Areas.{CollectedOf, OneAreaMore, pieces_in, boot_area, boot_byte_area, area_of, read, no_area};
+ghost use Rattle.model.specs.declared.refusals.Refusal.TheVariants.{TooManyPieces};
+ghost use Rattle.carving.specs.Ranges.{Carvable};
+ghost use Rattle.areas.specs.Areas.{collected, pieces_in, boot_area, boot_byte_area, area_of, read, no_area};
 ghost use Rattle.areas.specs.Boots.{IsBoot, Bounded, boot_call_of};
 ghost use Rattle.areas.specs.declared.BootArea.{BootArea};
 ghost use Rattle.areas.specs.Laws.{frames_boot, bytes_boot, words_boot, frames_bounded, bytes_bounded, words_bounded};
 
 use carving::{RangeList, check_and_add_free_region};
 use memory_structs::FrameRange;
-use model::{Area, ByteArea, Kind};
+use model::{Area, ByteArea, Kind, Refusal};
 
 // An area as boot takes it: its frames, its kind, and whether 2 refuses it. No `Result`: 5 and 4 come before 2, so an area that 2 refuses is
-// counted and looked at all the same.
+// looked at all the same.
 #[derive(Clone, Copy)]
 pub struct BootArea {
     pub frames: FrameRange,
@@ -22,7 +23,8 @@ pub struct BootArea {
     pub outside: bool,
 }
 
-// A boot map: areas in the given order, and the call that boots from them.
+// A boot map: areas in the given order, and the call that boots from them. A count and an index, and no iterator: a method of a trait has no
+// `impl Trait` as its result.
 pub trait BootMap {
     ghost areas: { Self → List BootArea };
 
@@ -123,7 +125,8 @@ pub enum AreaUnit {
     Bytes,
 }
 
-// Areas as words, three to an area, the third of them the kind. Words after the last whole area are not read.
+// Areas as words, three to an area, the third of them the kind. Words after the last whole area are not read. Words and no `Area`s: C hands over
+// no enum, and a run's areas are lent words too (docs/RUN.md).
 #[derive(Clone, Copy)]
 pub struct WordAreas<'a> {
     pub words: &'a [u64],
@@ -141,18 +144,13 @@ impl BootMap for WordAreas<'_> {
 
     #[tactic(auto, using(crate::proofs::Read::triples_count))]
     fn area_count(&self) -> usize {
-        self.words.len() / 3
+        self.words.as_chunks::<3>().0.len()
     }
 
-    #[tactic(auto, using(crate::proofs::Read::triples_count, crate::proofs::Read::three_words))]
+    #[tactic(auto, using(crate::proofs::Read::triples_count, crate::proofs::Read::chunk_at))]
     fn area_at(&self, i: usize) -> BootArea {
-        let at = 3 * i;
-        area_of(
-            self.unit,
-            self.words[at],
-            self.words[at + 1],
-            self.words[at + 2],
-        )
+        let [first, second, third] = self.words.as_chunks::<3>().0[i];
+        area_of(self.unit, first, second, third)
     }
 }
 
@@ -178,59 +176,53 @@ fn area_of(unit: AreaUnit, first: u64, second: u64, third: u64) -> BootArea
     }
 }
 
-// What is known of all areas before the first is carved: the reserved ones in the given order, whether one of them is empty, and
-// whether 2 refuses any area.
-#[derive(Clone, Copy)]
-pub struct Collected {
-    pub reserved: RangeList,
-    pub any_empty: bool,
-    pub any_outside: bool,
-}
-
-impl Collected {
-    // One area more.
-    #[tactic(auto, unfolding(crate::specs::Areas::extents, model::specs::Boot::marked, model::specs::Boot::reserved_of, model::specs::Lists::any_of))]
-    fn add(&mut self, area: BootArea)
-        ensures { OneAreaMore self.old area self.new }
-    {
-        self.any_outside |= area.outside;
+// The reserved areas in the given order, or what refuses a boot before any area is carved: "5, 4, 2", in this order, over the whole map. It
+// is read once, however long it is and however the kinds are mixed.
+#[tactic(auto, using(crate::proofs::Steps::collecting_start, crate::proofs::Steps::one_empty, crate::proofs::Steps::one_outside, crate::proofs::Steps::all_collected))]
+pub fn collect<M: BootMap>(map: &M) -> Result<RangeList, Refusal>
+    ensures { result ≡ collected (M.areas map.now) }
+{
+    let mut reserved = RangeList::new();
+    let mut any_empty = false;
+    let mut any_outside = false;
+    for i in 0..map.area_count() {
+        let area = map.area_at(i);
+        any_outside |= area.outside;
         match area.kind {
             Kind::General => {}
             Kind::Reserved => {
-                self.any_empty |= area.frames.is_empty();
-                self.reserved.push(area.frames);
+                any_empty |= area.frames.is_empty();
+                // 5 comes before 4 and 2, so that what comes after the 33rd reserved area changes nothing.
+                reserved
+                    .try_push(area.frames)
+                    .map_err(|_| Refusal::TooManyReservedAreas)?;
             }
         }
     }
-}
-
-// Reads the whole map once, however long it is and however the kinds are mixed.
-pub fn collect<M: BootMap>(map: &M) -> Collected
-    ensures { CollectedOf (M.areas map.now) result }
-{
-    let mut collected = Collected {
-        reserved: RangeList::new(),
-        any_empty: false,
-        any_outside: false,
-    };
-    for i in 0..map.area_count() {
-        collected.add(map.area_at(i));
+    if any_empty {
+        return Err(Refusal::EmptyReservedArea);
     }
-    collected
+    if any_outside {
+        return Err(Refusal::OutOfBounds);
+    }
+    Ok(reserved)
 }
 
 // The pieces of each general area, in the given order.
-pub fn carve<M: BootMap>(map: &M, reserved: &RangeList) -> RangeList
+#[tactic(auto, using(crate::proofs::Steps::carve_many, crate::proofs::Steps::carving_end))]
+pub fn carve<M: BootMap>(map: &M, reserved: &[FrameRange]) -> Result<RangeList, Refusal>
     requires { Carvable reserved.now }
-    ensures { result ≡ listed (pieces_in (ranges_in reserved.now) (M.areas map.now)) }
+    ensures ok { IfOk result (λ pieces. pieces.items ≡ pieces_in reserved.now (M.areas map.now)) }
+    ensures err { IfErr result (λ refusal. refusal ≡ TooManyPieces) }
+    ensures many { OnErr result (32 < length (pieces_in reserved.now (M.areas map.now))) }
 {
     let mut pieces = RangeList::new();
     for i in 0..map.area_count() {
         let area = map.area_at(i);
         match area.kind {
-            Kind::General => check_and_add_free_region(reserved, area.frames, &mut pieces),
+            Kind::General => check_and_add_free_region(reserved, area.frames, &mut pieces)?,
             Kind::Reserved => {}
         }
     }
-    pieces
+    Ok(pieces)
 }

@@ -1,14 +1,13 @@
 -- Lines that come in parts: what they leave and print is what they do as a whole.
-use Prim.Native.Nat.{ℕ, ◌<◌}
+use Prim.Native.Nat.{ℕ}
 use mathlib.Core.Path.{◌≡◌, refl, sym, ap, ◌∙◌}
 use mathlib.Core.Bool.{Bool, true, false, cond}
 use mathlib.Core.List.{List, [], ◌∷◌, ◌++◌, append_assoc, append-nil}
-use lib.ListN.{length, take}
 use lib.Dec.{eqb}
 use Rattle.bench_lines.specs.Commands.{command_of}
 use Rattle.std.proofs.Common.{Option}
 use Rattle.bench_lines.specs.declared.Command.{Command}
-use Rattle.bench_lines.specs.Lines.{lines_from, LineHeld}
+use Rattle.bench_lines.specs.Lines.{lines_from, held}
 use Rattle.bench_lines.proofs.Held.{held_decides_on}
 use Rattle.bench_answers.specs.Answered.{State, answered, state_after, printed}
 
@@ -56,9 +55,8 @@ same_print a b (x ∷ text) s same = go (eqb x 10) (same_print (a ++ (x ∷ []))
     go false later = later
 
 -- what is held of a line stands for all that came of it
-module _ {came buffer : List ℕ} {len : ℕ} (wide : 128 < length buffer) (h : LineHeld came buffer len) (text : List ℕ) (s : State) where
-  pub held_state : state_after (lines_from (take len buffer) text) s ≡ state_after (lines_from came text) s
-  held_state = same_state (take len buffer) came text s (held_decides_on wide h)
+pub held_state : (came text : List ℕ) (s : State) → state_after (lines_from (held came) text) s ≡ state_after (lines_from came text) s
+held_state came text s = same_state (held came) came text s (held_decides_on came)
 
-  pub held_print : printed (lines_from (take len buffer) text) s ≡ printed (lines_from came text) s
-  held_print = same_print (take len buffer) came text s (held_decides_on wide h)
+pub held_print : (came text : List ℕ) (s : State) → printed (lines_from (held came) text) s ≡ printed (lines_from came text) s
+held_print came text s = same_print (held came) came text s (held_decides_on came)

@@ -1,17 +1,15 @@
 -- The bench program, line by line. The words in quotes are document 01's.
 use Rattle.std.specs.Prelude.{ℕ, cond, List, [], ◌∷◌, ◌++◌, ltb, Option, Some, None}
-use Rattle.memory_structs.specs.Range.{range}
 use Rattle.model.specs.Lists.{Lists}
 use Rattle.model.specs.Store.{load}
 use Rattle.model.specs.Calls.{Call, call, boot_call, sort_call, count_call, address_call, return_call, fresh_record}
 use Rattle.model.specs.declared.Area.{Area}
 use Rattle.model.specs.declared.FrameAllocator.{FrameAllocator}
-use Rattle.model.specs.declared.Kind.TheVariants.{General, Reserved}
 use Rattle.entries.specs.declared.header.WhichList.TheVariants.{GeneralFree, ReservedFree, GeneralRegions, ReservedRegions}
 use Rattle.bench_areas.specs.Areas.{how_many}
 use Rattle.bench_lines.specs.Commands.{command_of}
 use Rattle.bench_lines.specs.declared.Command.{Command}
-use Rattle.bench_lines.specs.declared.Command.TheVariants.{Free, Reserved as ReservedArea, Boot, Sort, Count, At, Give, Lists as TheLists}
+use Rattle.bench_lines.specs.declared.Command.TheVariants.{Collect, Boot, Sort, Count, At, Give, Lists as TheLists}
 use Rattle.bench_texts.specs.Texts.{bad_line, answer_line}
 use Rattle.bench_lists.specs.ListLines.{line_of}
 
@@ -52,15 +50,13 @@ calling c s = record {
 unfoldable pub four_lines : Lists → List ℕ
 four_lines l = line_of GeneralFree l ++ (line_of ReservedFree l ++ (line_of GeneralRegions l ++ line_of ReservedRegions l))
 
--- "S and E are first and last frame, N a count."
 unfoldable pub answered : Option Command → State → Answered
-answered (Some (Free s e)) = collecting (record { start = s; end = e; kind = General })
-answered (Some (ReservedArea s e)) = collecting (record { start = s; end = e; kind = Reserved })
+answered (Some (Collect a)) = collecting a
 answered (Some Boot) = λ s. calling (boot_call s.areas) s
 answered (Some Sort) = calling sort_call
 answered (Some (Count n)) = calling (count_call n)
 answered (Some (At s n)) = calling (address_call s n)
-answered (Some (Give s e)) = calling (return_call (range s e))
+answered (Some (Give r)) = calling (return_call r)
 answered (Some TheLists) = λ s. saying (four_lines (load s.allocator s.words)) s
 answered None = saying bad_line
 

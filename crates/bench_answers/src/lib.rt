@@ -1,70 +1,57 @@
 // What a line of `framebench` does and prints: document 01, "The bench program".
 #![tactic(auto)]
 
-ghost use Rattle.std.specs.Prelude.{◌≡◌, ◌≤◌, length};
+ghost use Rattle.std.specs.Prelude.{◌≡◌, []};
 ghost use Rattle.rules.specs.Check.{Ruled};
 ghost use Rattle.model.specs.Calls.{boot_call};
 ghost use Rattle.model.specs.Store.{load};
-ghost use Rattle.bench_areas.specs.Areas.{Room, collected};
+ghost use Rattle.bench_areas.specs.Areas.{Few};
 ghost use Rattle.bench_lines.specs.Commands.{command_of};
-ghost use Rattle.entries.specs.Whole as entries;
-ghost use Rattle.entries.specs.Whole.{lists_in};
-ghost use Rattle.bench_texts.specs.Texts.{Puts, answer_line};
+ghost use Rattle.entries.specs.Listed.{lists_of};
+ghost use Rattle.bench_texts.specs.Texts.{answer_line};
 ghost use Rattle.bench_answers.specs.Answered.{answered, calling, four_lines};
-ghost use Rattle.bench_answers.specs.Replies.{Ready, Replies, Gathers, Says, reply_room, first_bench, state_of, with_record};
+ghost use Rattle.bench_answers.specs.Replies.{Ready, Replies, Gathers, First, state_of, with_record};
 
-use bench_areas::AreaCounts;
+use bench_areas::{Areas, TooMany};
 use bench_lines::Command;
 use bench_lists::put_list;
-use entries::{Header, WhichList};
-use memory_structs::FrameRange;
-use model::{Area, Called, FrameAllocator, Kind};
+use bench_texts::Out;
+use entries::{FourLists, WhichList};
+use model::{Area, Called, FrameAllocator};
 use requests::Request;
 
 // What lives from line to line, beside the lent words.
-#[derive(Clone, Copy)]
+#[derive(Drop)]
 pub struct Bench {
     pub allocator: FrameAllocator,
-    pub counts: AreaCounts,
-}
-
-// The bench after a line, and how many bytes of the lent buffer the line prints: no heap, so no `Vec` of them.
-#[derive(Clone, Copy)]
-pub struct Reply {
-    pub bench: Bench,
-    pub len: usize,
+    pub areas: Areas,
 }
 
 impl Bench {
     // Before the first line.
     pub fn begin() -> Bench
-        ensures { result ≡ first_bench }
+        ensures { First result }
     {
         Bench {
             allocator: lists::fresh(),
-            counts: AreaCounts::none(),
+            areas: Areas::new(),
         }
     }
 
-    // Writes what the line prints to the start of the buffer.
-    pub fn answer(self, line: &[u8], out: &mut [u8], areas: &mut [u64], words: &mut [u64]) -> Reply
-        requires { Ready self out.old areas.old words.old }
-        ensures { Replies (answered (command_of line.now) (state_of self areas.old words.old)) out.old result out.new areas.new words.new }
+    // Leaves in `out` what the line prints: no heap, so no `Vec` of it.
+    pub fn answer(&mut self, line: &[u8], out: &mut Out, words: &mut [u64])
+        requires { Ready self.old words.old }
+        ensures { Replies (answered (command_of line.now) (state_of self.old words.old)) self.new out.new.items words.new }
     {
+        out.clear();
         let Some(command) = bench_lines::read_command(line) else {
-            return self.say(out, b"(bad)\n");
+            return bench_texts::put_text(out, b"(bad)\n");
         };
+        // To the calls by value, of which `answered` speaks: each hands the record back.
         let a = self.allocator;
         match command {
-            Command::Free(start, end) => {
-                let kind = Kind::General;
-                self.collect(out, areas, Area { start, end, kind })
-            }
-            Command::Reserved(start, end) => {
-                let kind = Kind::Reserved;
-                self.collect(out, areas, Area { start, end, kind })
-            }
-            Command::Boot => self.boot(out, areas, words),
+            Command::Collect(area) => self.collect(out, area),
+            Command::Boot => self.boot(out, words),
             Command::Sort => self.tell(out, sort::convert_frame_allocator_to_heap_based(a, words)),
             Command::Count(num_frames) => self.tell(
                 out,
@@ -74,88 +61,59 @@ impl Bench {
                 out,
                 calls::allocate(a, words, Request::FramesAt { frame, num_frames }),
             ),
-            Command::Give(start, end) => {
-                let range = FrameRange::new(start, end);
-                self.tell(out, calls::return_frames(a, words, range))
-            }
+            Command::Give(range) => self.tell(out, calls::return_frames(a, words, range)),
             Command::Lists => self.list(out, words),
         }
     }
 
     // "Collecting prints nothing".
-    fn collect(self, out: &mut [u8], areas: &mut [u64], area: Area) -> Reply
-        requires { (reply_room ≤ length out.old) × Room self.counts areas.old }
-        ensures { Gathers area self out.old areas.old result out.new areas.new }
+    fn collect(&mut self, out: &mut Out, area: Area)
+        requires { (out.old.items ≡ []) × Few self.old.areas.items }
+        ensures { Gathers area self.old self.new out.new.items }
     {
-        let allocator = self.allocator;
-        match bench_areas::collect(areas, self.counts, area) {
-            Some(counts) => Bench { allocator, counts }.say(out, b""),
-            None => self.say(out, b"(bad)\n"),
+        match bench_areas::collect(&mut self.areas, area) {
+            Ok(()) => {}
+            Err(TooMany) => bench_texts::put_text(out, b"(bad)\n"),
         }
     }
 
     // "Collected areas stay after a boot".
-    fn boot(self, out: &mut [u8], areas: &[u64], words: &[u64]) -> Reply
-        requires { Ready self out.old areas.now words.now }
-        ensures { Replies (calling (boot_call (collected self.counts areas.now)) (state_of self areas.now words.now)) out.old result out.new areas.now words.now }
+    fn boot(&mut self, out: &mut Out, words: &[u64])
+        requires { (out.old.items ≡ []) × Ready self.old words.now }
+        ensures { Replies (calling (boot_call self.old.areas.items) (state_of self.old words.now)) self.new out.new.items words.now }
     {
-        let used = self.counts.words_used();
-        self.tell(out, boot::init(self.allocator, &areas[..used], words))
+        let booted = boot::boot_map(self.allocator, &self.areas.as_slice(), words);
+        self.tell(out, booted);
     }
 
     // Says what a call answered, and goes on with the record after it.
-    fn tell(self, out: &mut [u8], called: Called) -> Reply
-        requires { reply_room ≤ length out.old }
-        ensures { Says (answer_line called.answer) (with_record called.allocator self) out.old result out.new }
+    fn tell(&mut self, out: &mut Out, called: Called)
+        requires { out.old.items ≡ [] }
+        ensures bench { self.new ≡ with_record called.allocator self.old }
+        ensures text { out.new.items ≡ answer_line called.answer }
     {
-        let len = bench_texts::write_answer(out, called.answer);
-        let allocator = called.allocator;
-        let counts = self.counts;
-        let bench = Bench { allocator, counts };
-        Reply { bench, len }
+        self.allocator = called.allocator;
+        bench_texts::write_answer(out, called.answer);
     }
 
-    fn list(self, out: &mut [u8], words: &[u64]) -> Reply
-        requires ruled { Ruled self.allocator words.now }
-        requires reply_room_in_bounds { reply_room ≤ length out.old }
-        ensures { Says (four_lines (load self.allocator words.now)) self out.old result out.new }
+    fn list(&self, out: &mut Out, words: &[u64])
+        requires ruled { Ruled self.now.allocator words.now }
+        requires empty { out.old.items ≡ [] }
+        ensures { out.new.items ≡ four_lines (load self.now.allocator words.now) }
     {
         let mut slots = [0u64; 256];
         let h = packing::take_apart(&self.allocator, &mut slots);
-        let lists = packing::entries_of(h, &slots, words);
-        let len = put_lists(out, h, lists);
-        Reply { bench: self, len }
-    }
-
-    fn say(self, out: &mut [u8], text: &[u8]) -> Reply
-        requires { length text.now ≤ length out.old }
-        ensures { Says text.now self out.old result out.new }
-    {
-        let len = bench_texts::put_text(out, 0, text);
-        Reply { bench: self, len }
+        put_lists(out, packing::lists_of(h, &slots, words));
     }
 }
 
-// "`(list)` prints the four lists", each from where the last ended. Four calls: the clause joins four lines, which a loop says no plainer.
-fn put_lists(out: &mut [u8], h: Header, lists: &[u64]) -> usize
-    requires ruled { entries.Ruled h lists.now }
-    requires reply_room_in_bounds { reply_room ≤ length out.old }
-    ensures { Puts (four_lines (lists_in h lists.now)) out.old 0 out.new result }
+// "`(list)` prints the four lists". Four calls: the clause joins four lines, which a loop says no plainer.
+fn put_lists(out: &mut Out, lists: FourLists)
+    requires { out.old.items ≡ [] }
+    ensures { out.new.items ≡ four_lines (lists_of lists.entry) }
 {
-    let reserved_free_at = put_list(out, 0, h, lists, WhichList::GeneralFree);
-    let general_regions_at = put_list(out, reserved_free_at, h, lists, WhichList::ReservedFree);
-    let reserved_regions_at = put_list(
-        out,
-        general_regions_at,
-        h,
-        lists,
-        WhichList::GeneralRegions,
-    );
-    put_list(
-        out,
-        reserved_regions_at,
-        h,
-        lists,
-        WhichList::ReservedRegions,
-    )
+    put_list(out, lists, WhichList::GeneralFree);
+    put_list(out, lists, WhichList::ReservedFree);
+    put_list(out, lists, WhichList::GeneralRegions);
+    put_list(out, lists, WhichList::ReservedRegions);
 }

@@ -1,117 +1,61 @@
 -- One area more.
 use native.Mathlib.Omega.{arith}
-use Prim.Native.Nat.{ℕ, zero, suc, ◌+◌, ◌*◌, ◌≤◌, ◌<◌}
-use Rattle.std.proofs.lemmas.Grind.{take-set_at}
-use mathlib.Core.Path.{◌≡◌, refl, sym, ap, subst, ◌∙◌}
-use mathlib.Core.List.{List, [], ◌∷◌, ◌++◌, append_assoc}
-use lib.ListN.{length, take, set, length-set}
-use lib.Seq.{length-take-le}
+use Prim.Native.Nat.{◌+◌, ◌≤◌, ◌<◌}
+use mathlib.Core.Path.{◌≡◌, refl, ◌∙◌}
+use mathlib.Core.Bool.{cond, not}
+use mathlib.Core.List.{List, [], ◌∷◌, ◌++◌}
+use lib.ListN.{length}
+use Rattle.std.proofs.lemmas.List.Filters.{length-filter_both}
+use Rattle.std.proofs.lemmas.List.Sums.{sum_by-append, length-filter}
 use Rattle.model.specs.declared.Area.{Area}
 use Rattle.model.specs.declared.Kind.{Kind}
 use Rattle.model.specs.declared.Kind.TheVariants.{General, Reserved}
 use Rattle.model.specs.Words.{kind_of_word, word_of}
-use Rattle.areas.specs.Areas.{triples, areas_in}
-use Rattle.bench_areas.specs.declared.AreaCounts.{AreaCounts}
-use Rattle.bench_areas.specs.Areas.{Few, Room, Adds, count_of, one_more, same_kind, how_many, words_used, collected}
+use Rattle.bench_areas.specs.Areas.{Few, same_kind, how_many}
 
+-- of `word_of` (model/specs/Words): the word that stands for a kind is read as this kind
 pub kind_back : (k : Kind) → kind_of_word (word_of k) ≡ k
 unfolding kind_of_word word_of
 kind_back General = refl
 kind_back Reserved = refl
 
--- three words more are one thing more
-triples_more : {A : Type 0} (f : ℕ → ℕ → ℕ → A) (k : ℕ) (ws : List ℕ) (x y z : ℕ) → length ws ≡ 3 * k → triples f (ws ++ (x ∷ y ∷ z ∷ [])) ≡ triples f ws ++ (f x y z ∷ [])
-unfolding triples
-triples_more f zero [] x y z e = refl
-triples_more f zero (a ∷ ws) x y z e = absurd (omega arith)
-triples_more f (suc k) [] x y z e = absurd (omega arith)
-triples_more f (suc k) (a ∷ []) x y z e = absurd (omega arith)
-triples_more f (suc k) (a ∷ b ∷ []) x y z e = absurd (omega arith)
-triples_more f (suc k) (a ∷ b ∷ c ∷ ws) x y z e = ap (◌∷◌ (f a b c)) (triples_more f k ws x y z (omega arith))
-
--- three words written one after another
-written : (ws : List ℕ) (at x y z : ℕ) → at + 3 ≤ length ws → take (at + 3) (set (set (set ws at x) (at + 1) y) (at + 2) z) ≡ take at ws ++ (x ∷ y ∷ z ∷ [])
-written ws at x y z room =
-    take-set_at (set (set ws at x) (at + 1) y) (at + 2) (at + 3) z (omega arith) (simp length-set (omega arith))
-    ∙ ap (λ (l : List ℕ). l ++ (z ∷ []))
-    (take-set_at (set ws at x) (at + 1) (at + 2) y (omega arith) (simp length-set (omega arith)) ∙ ap (λ (l : List ℕ). l ++ (y ∷ [])) (take-set_at ws at (at + 1) x refl (omega arith)))
-    ∙ simp append_assoc
-
--- an area more of a kind that is not full: the counts
-module _ (k : Kind) (c : AreaCounts) (n : count_of k c < 64) (few : Few c) where
-  pub fits : words_used c + 3 ≤ 384
-  unfolding count_of
-  fits = go k n
-    where
-      go : (k : Kind) → count_of k c < 64 → words_used c + 3 ≤ 384
-      go General h = omega (arith, few.reserved_few)
-      go Reserved h = omega (arith, few.general_few)
-
-  few_more : Few (one_more k c)
-  unfolding count_of one_more
-  few_more = go k n
-    where
-      go : (k : Kind) → count_of k c < 64 → Few (one_more k c)
-      go General h = record { general_few = omega arith; reserved_few = few.reserved_few }
-      go Reserved h = record { general_few = few.general_few; reserved_few = omega arith }
-
-words_more : (k : Kind) (c : AreaCounts) → words_used (one_more k c) ≡ words_used c + 3
-unfolding one_more
-words_more General c = omega arith
-words_more Reserved c = omega arith
-
--- a count that has reached 64
-pub full : (k : Kind) (c : AreaCounts) → Few c → 64 ≤ count_of k c → count_of k c ≡ 64
-unfolding count_of
-full General c few h = omega (arith, few.general_few)
-full Reserved c few h = omega (arith, few.reserved_few)
-
--- an area more counts for its own kind
-count_more : (k j : Kind) (c : AreaCounts) → count_of k (one_more j c) ≡ count_of k c + same_kind k j
-unfolding count_of one_more same_kind
-count_more General General c = refl
-count_more General Reserved c = omega arith
-count_more Reserved General c = omega arith
-count_more Reserved Reserved c = refl
-
-many_more : (k : Kind) (areas : List Area) (a : Area) → how_many k (areas ++ (a ∷ [])) ≡ how_many k areas + same_kind k a.kind
-unfolding how_many
-many_more k [] a = omega arith
-many_more k (x ∷ areas) a = ap (◌+◌ (same_kind k x.kind)) (many_more k areas a) ∙ omega arith
-
--- the area stands after the others
-pub adds : (a : Area) (c : AreaCounts) (ws : List ℕ) {at w : ℕ} {d : AreaCounts} → Room c ws → count_of a.kind c < 64 →
-    at ≡ words_used c → w ≡ word_of a.kind → d ≡ one_more a.kind c →
-    Adds a c ws d (set (set (set ws at a.start) (at + 1) a.end) (at + 2) w)
-adds a c ws {at} {w} {d} room n place word more = record {
-  counts = more;
-  areas = one_after;
-  room = record {
-    few = subst Few (sym more) (few_more a.kind c n room.few);
-    long = simp length-set long;
-    counted = λ k.
-        ap (count_of k) more ∙ count_more k a.kind c
-        ∙ ap (λ (n : ℕ). n + same_kind k a.kind) (room.counted k)
-        ∙ sym (many_more k (collected c ws) a)
-        ∙ ap (how_many k) (sym one_after);
-  };
-}
+-- each area is of one of two kinds
+both_kinds : (areas : List Area) → how_many General areas + how_many Reserved areas ≡ length areas
+unfolding how_many same_kind
+both_kinds areas =
+    omega (
+      arith,
+      length-filter_both (λ a. same_kind a.kind General) (λ a. same_kind a.kind Reserved) (λ a. other a.kind) areas,
+      length-filter (λ a. same_kind a.kind General) areas,
+      length-filter (λ a. same_kind a.kind Reserved) areas,
+    )
   where
-    after : List ℕ
-    after = set (set (set ws at a.start) (at + 1) a.end) (at + 2) w
+    other : (k : Kind) → same_kind k Reserved ≡ not (same_kind k General)
+    other General = refl
+    other Reserved = refl
 
-    long : 384 ≤ length ws
-    long = room.long
+-- one more counts for its own kind
+more : (k : Kind) (areas : List Area) (a : Area) → how_many k (areas ++ (a ∷ [])) ≡ how_many k areas + cond (same_kind a.kind k) 1 0
+unfolding how_many
+more k areas a = sum_by-append (λ x. cond (same_kind x.kind k) 1 0) areas (a ∷ []) ∙ omega arith
 
-    there : at + 3 ≤ 384
-    there = omega (arith, place, fits a.kind c n room.few)
+pub all_there : (k : Kind) (areas : List Area) → Few areas → 64 ≤ how_many k areas → how_many k areas ≡ 64
+all_there k areas few many = omega (arith, few k, many)
 
-    last : words_used d ≡ at + 3
-    last = ap (λ (x : AreaCounts). words_used x) more ∙ words_more a.kind c ∙ omega (arith, place)
+module _ (a : Area) (areas : List Area) (few : Few areas) (under : how_many a.kind areas < 64) where
+  pub has_place : length areas < 128
+  has_place = go a.kind under
+    where
+      go : (k : Kind) → how_many k areas < 64 → length areas < 128
+      go General h = omega (arith, both_kinds areas, few Reserved)
+      go Reserved h = omega (arith, both_kinds areas, few General)
 
-    one_after : collected d after ≡ collected c ws ++ (a ∷ [])
-    one_after =
-        ap (λ (m : ℕ). areas_in (take m after)) last
-        ∙ ap areas_in (written ws at a.start a.end w (omega (arith, long, there)))
-        ∙ triples_more _ (c.general + c.reserved) (take at ws) a.start a.end w (length-take-le at ws (omega (arith, long, there)) ∙ place)
-        ∙ (λ i. areas_in (take (place i) ws) ++ (record { start = a.start; end = a.end; kind = (ap kind_of_word word ∙ kind_back a.kind) i } ∷ []))
+  pub still_few : Few (areas ++ (a ∷ []))
+  unfolding same_kind
+  still_few k = omega (arith, more k areas a, go a.kind k under)
+    where
+      go : (j k : Kind) → how_many j areas < 64 → how_many k areas + cond (same_kind j k) 1 0 ≤ 64
+      go General General h = omega arith
+      go General Reserved h = omega (arith, few Reserved)
+      go Reserved General h = omega (arith, few General)
+      go Reserved Reserved h = omega arith

@@ -1,9 +1,11 @@
 -- The commands of the bench program. The words in quotes are document 01's. A text is a list of bytes.
 use Rattle.std.specs.Prelude.{ℕ, ◌-◌, Bool, cond, ◌&&◌, Option, Some, None, List, [], ◌∷◌, length, take, drop, leb, ltb}
 use Rattle.std.specs.Str.{bytes_eq}
+use Rattle.memory_structs.specs.Range.{range}
+use Rattle.model.specs.declared.Kind.TheVariants.{General, Reserved}
 use Rattle.lines.specs.Words.{decimal_of, words_in, reserved_text}
 use Rattle.bench_lines.specs.declared.Command.{Command}
-use Rattle.bench_lines.specs.declared.Command.TheVariants.{Free, Reserved, Boot, Sort, Count, At, Give, Lists}
+use Rattle.bench_lines.specs.declared.Command.TheVariants.{Collect, Boot, Sort, Count, At, Give, Lists}
 
 -- "("
 abbrev pub opening_text : List ℕ
@@ -55,10 +57,10 @@ one_number name n = cond (bytes_eq name count_text) (Some (Count n)) None
 -- "`(free S E)`, `(reserved S E)`", "`(at S N)`, `(give S E)`"
 unfoldable pub two_numbers : List ℕ → ℕ → ℕ → Option Command
 two_numbers name a b =
-    cond (bytes_eq name free_text) (Some (Free a b))
-    (cond (bytes_eq name reserved_text) (Some (Reserved a b))
+    cond (bytes_eq name free_text) (Some (Collect (record { start = a; end = b; kind = General })))
+    (cond (bytes_eq name reserved_text) (Some (Collect (record { start = a; end = b; kind = Reserved })))
     (cond (bytes_eq name at_text) (Some (At a b))
-    (cond (bytes_eq name give_text) (Some (Give a b)) None)))
+    (cond (bytes_eq name give_text) (Some (Give (range a b))) None)))
 
 unfoldable pub with_one : List ℕ → Option ℕ → Option Command
 with_one name (Some n) = one_number name n

@@ -1,5 +1,5 @@
 -- Lines as they come. The words in quotes are document 01's.
-use Rattle.std.specs.Prelude.{ℕ, ◌≤◌, ◌≡◌, cond, List, [], ◌∷◌, ◌++◌, length, take, eqb}
+use Rattle.std.specs.Prelude.{ℕ, cond, List, [], ◌∷◌, ◌++◌, take, eqb}
 
 -- "one a line": the lines that end in a text, where these bytes of the first have come before. Byte 10 ends a line, and is no part of it.
 unfoldable pub lines_from : List ℕ → List ℕ → List (List ℕ)
@@ -11,8 +11,7 @@ unfoldable pub rest_from : List ℕ → List ℕ → List ℕ
 rest_from came [] = came
 rest_from came (b ∷ text) = cond (eqb b 10) (rest_from [] text) (rest_from (came ++ (b ∷ [])) text)
 
--- of the bytes that came as many are held as have room. `held_on` and `held_decides` (proofs/Held) say that a line may come in any
--- parts, and that 129 bytes of it decide what it is.
-pub record LineHeld (came buffer : List ℕ) (len : ℕ) : Type 0 where
-  pub fits : len ≤ length buffer
-  pub bytes : take len buffer ≡ take (length buffer) came
+-- of the bytes that came the first 129 are held. `held_on` and `held_decides` (proofs/Held) say that a line may come in any parts, and
+-- that 129 bytes of it decide what it is.
+abbrev pub held : List ℕ → List ℕ
+held came = take 129 came

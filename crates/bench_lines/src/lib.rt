@@ -1,33 +1,37 @@
 // The lines that `framebench` reads, and the commands that they are: document 01, "The bench program".
 #![tactic(auto)]
 
-ghost use Rattle.std.specs.Prelude.{◌≡◌, ◌++◌, ◌≤◌, length, take};
+ghost use Rattle.std.specs.Prelude.{◌≡◌, ◌++◌};
 ghost use Rattle.lines.specs.Words.{words_in};
 ghost use Rattle.bench_lines.specs.Commands as command;
-ghost use Rattle.bench_lines.specs.Lines.{LineHeld};
+ghost use Rattle.bench_lines.specs.Lines.{held};
 
-// What a line asks for.
+use arrayvec::ArrayVec;
+use memory_structs::FrameRange;
+use model::{Area, Kind};
+
+// What a line asks for. `Count` and `At` hold their numbers and no `Request`: its crate stands above the tables, which no reader of lines needs.
 #[derive(Clone, Copy)]
 pub enum Command {
-    Free(u64, u64),
-    Reserved(u64, u64),
+    Collect(Area),
     Boot,
     Sort,
     Count(u64),
     At(u64, u64),
-    Give(u64, u64),
+    Give(FrameRange),
     Lists,
 }
 
-// Takes more bytes of a line, of which `len` are held so far, and answers how many are held now. What has no room is left out: a
-// buffer of 129 bytes tells a line above 128 from the others, however long the line is.
-pub fn hold(line: &mut [u8], len: usize, more: &[u8]) -> usize
-    requires { len ≤ length line.old }
-    ensures { LineHeld (take len line.old ++ more.now) line.new result }
+// What is held of a line: with a byte more than a line may have, a line above 128 is told from the others, however long it is.
+pub type Held = ArrayVec<u8, 129>;
+
+// Takes more bytes of a line. What has no room is left out.
+pub fn hold(line: &mut Held, more: &[u8])
+    ensures { line.new.items ≡ held (line.old.items ++ more.now) }
 {
-    let taken = more.len().min(line.len() - len);
-    line[len..len + taken].copy_from_slice(&more[..taken]);
-    len + taken
+    let taken = more.len().min(line.remaining_capacity());
+    // As many as have room, so that this does not fail.
+    let _ = line.try_extend_from_slice(&more[..taken]);
 }
 
 // None for any line that document 01 does not name.
@@ -83,10 +87,18 @@ fn two_numbers(name: &[u8], a: u64, b: u64) -> Option<Command>
     ensures { result ≡ command.two_numbers name.now a b }
 {
     match name {
-        b"free" => Some(Command::Free(a, b)),
-        b"reserved" => Some(Command::Reserved(a, b)),
+        b"free" => Some(Command::Collect(Area {
+            start: a,
+            end: b,
+            kind: Kind::General,
+        })),
+        b"reserved" => Some(Command::Collect(Area {
+            start: a,
+            end: b,
+            kind: Kind::Reserved,
+        })),
         b"at" => Some(Command::At(a, b)),
-        b"give" => Some(Command::Give(a, b)),
+        b"give" => Some(Command::Give(FrameRange::new(a, b))),
         _ => None,
     }
 }

@@ -1,10 +1,10 @@
 -- Entries put one after another, as a loop puts them.
 use native.Mathlib.Omega.{arith}
-use Prim.Native.Nat.{ℕ, zero, suc, ◌+◌, ◌-◌, ◌*◌, ◌≤◌, ◌<◌}
+use Prim.Native.Nat.{ℕ, zero, suc, ◌+◌, ◌*◌, ◌≤◌, ◌<◌}
 use mathlib.Core.Path.{◌≡◌, refl, sym, ap, subst, ◌∙◌}
 use mathlib.Core.Bool.{Bool, true, false, true≢false}
-use mathlib.Core.List.{List, [], ◌∷◌, ◌++◌}
-use lib.ListN.{length, take, drop, length-append}
+use mathlib.Core.List.{List, [], ◌∷◌, ◌++◌, append_assoc, append-nil}
+use lib.ListN.{length, drop, length-append}
 use borrow.Author.Tests.{ltb-true}
 use Rattle.memory_structs.specs.Range.{is_empty}
 use Rattle.memory_structs.specs.declared.range.FrameRange.{FrameRange}
@@ -12,50 +12,44 @@ use Rattle.model.specs.Lists.{Lists, Slot, unused, used, entries, range_at, boun
 use Rattle.model.specs.Rules.{rules}
 use Rattle.model.proofs.Lawful.{AllSound}
 use Rattle.model.proofs.Ruled.{tidy_is}
-use Rattle.entries.specs.Part.{IsPart, slots_in, part_slots, width}
-use Rattle.entries.specs.Whole.{slots_at, lists_in, part_in, part_of, Ruled}
+use Rattle.entries.specs.Part.{IsPart, slots_in}
+use Rattle.entries.specs.Listed.{lists_of}
+use Rattle.entries.specs.Whole.{slots_at}
 use Rattle.entries.proofs.Forms.{sorted_length, early_length}
-use Rattle.entries.proofs.Whole.{tidy_list, lent_slots}
-use Rattle.entries.specs.declared.header.Header.{Header}
-use Rattle.entries.specs.declared.Part.{Part}
+use Rattle.entries.proofs.Whole.{tidy_list}
+use Rattle.entries.specs.declared.lists.FourLists.{FourLists}
 use Rattle.entries.specs.declared.header.WhichList.{WhichList}
 use Rattle.entries.specs.declared.header.WhichList.TheVariants.{GeneralFree, ReservedFree, GeneralRegions, ReservedRegions}
-use Rattle.bench_texts.specs.Texts.{Puts, line_end_text}
-use Rattle.bench_texts.proofs.Puts.{puts_then, puts_nothing}
-use Rattle.bench_texts.proofs.Decimal.{range_length}
+use Rattle.bench_texts.specs.Texts.{line_end_text}
+use Rattle.bench_texts.proofs.Decimal.{range_length, after_text}
 use Rattle.bench_lists.specs.ListLines.{entry_opening, entry_closing, entry_room, entries_room, entry_text, entries_text, name_text, list_line, line_of, line_room}
 
--- i entries at most have been put, and putting the ones that are left puts all of them
-pub record Going (whole left : List FrameRange) (before : List ℕ) (at i : ℕ) (out : List ℕ) (next : ℕ) : Type 0 where
-  pub size : length out ≡ length before
-  pub place : next ≤ at + entry_room * i
-  pub rest : (after : List ℕ) (end : ℕ) → Puts (entries_text left) out next after end → Puts (entries_text whole) before at after end
+-- i entries at most have been put, and with the ones that are left it is all of them
+pub record Going (whole left : List FrameRange) (before : List ℕ) (i : ℕ) (out : List ℕ) : Type 0 where
+  pub size : length out ≤ length before + entry_room * i
+  pub rest : out ++ entries_text left ≡ before ++ entries_text whole
 
-pub going_starts : (whole : List FrameRange) (before : List ℕ) (at : ℕ) → Going whole whole before at 0 before at
-going_starts whole before at = record { size = refl; place = omega arith; rest = λ after end p. p }
+pub going_starts : (whole : List FrameRange) (before : List ℕ) → Going whole whole before 0 before
+going_starts whole before = record { size = omega arith; rest = refl }
 
-module _ {whole left : List FrameRange} {before out : List ℕ} {at i next : ℕ} where
-  pub going_on : {r : FrameRange} {after : List ℕ} {end : ℕ} → Going whole (r ∷ left) before at i out next → next ≤ length out →
-      Puts (entry_text r) out next after end → length after ≡ length out → Going whole left before at (i + 1) after end
+module _ {whole left : List FrameRange} {before out : List ℕ} {i : ℕ} where
+  pub going_on : {r : FrameRange} {after : List ℕ} → Going whole (r ∷ left) before i out → after ≡ out ++ entry_text r → Going whole left before (i + 1) after
   unfolding entries_text
-  going_on {r} g inside p same = record {
-    size = same ∙ g.size;
-    place = omega (arith, g.place, p.place, range_length entry_opening entry_closing r);
-    rest = λ last stop q. g.rest last stop (puts_then inside p q);
+  going_on {r} g put = record {
+    size = omega (arith, g.size, after_text (entry_text r) out put, range_length entry_opening entry_closing r);
+    rest = ap (λ (t : List ℕ). t ++ entries_text left) put ∙ append_assoc out (entry_text r) (entries_text left) ∙ g.rest;
   }
 
-  pub going_past : Going whole left before at i out next → Going whole left before at (i + 1) out next
-  going_past g = record { size = g.size; place = omega (arith, g.place); rest = g.rest }
+  pub going_past : Going whole left before i out → Going whole left before (i + 1) out
+  going_past g = record { size = omega (arith, g.size); rest = g.rest }
 
-  pub going_ends : Going whole left before at i out next → left ≡ [] → Puts (entries_text whole) before at out next
+  pub going_ends : Going whole left before i out → left ≡ [] → out ≡ before ++ entries_text whole
   unfolding entries_text
-  going_ends g none = g.rest out next (subst (λ (rs : List FrameRange). Puts (entries_text rs) out next out next) (sym none) (puts_nothing out next))
+  going_ends g none = sym (append-nil out) ∙ ap (λ (rs : List FrameRange). out ++ entries_text rs) (sym none) ∙ g.rest
 
--- the same, at equal bytes and an equal place
-pub moved : {whole left : List FrameRange} {before out after : List ℕ} {at i next end : ℕ} → after ≡ out → end ≡ next →
-    Going whole left before at i out next → Going whole left before at i after end
-moved {whole} {left} {before} {out} {after} {at} {i} {next} {end} e f g =
-    subst (λ (x : ℕ). Going whole left before at i after x) (sym f) (subst (λ (x : List ℕ). Going whole left before at i x next) (sym e) g)
+-- the same, at equal bytes
+pub moved : {whole left : List FrameRange} {before out after : List ℕ} {i : ℕ} → after ≡ out → Going whole left before i out → Going whole left before i after
+moved {whole} {left} {before} {i = i} e g = subst (λ (x : List ℕ). Going whole left before i x) (sym e) g
 
 -- ---- slot by slot: a slot whose range is empty is no entry, and each entry has a frame
 
@@ -100,9 +94,6 @@ entries_length [] = omega arith
 entries_length (r ∷ rs) =
     omega (arith, length-append (entry_text r) (entries_text rs), range_length entry_opening entry_closing r, entries_length rs)
 
-pub entries_within : (rs : List FrameRange) {before after : List ℕ} {at next : ℕ} → length rs ≤ 512 → Puts (entries_text rs) before at after next → next ≤ at + entries_room
-entries_within rs few p = omega (arith, p.place, entries_length rs)
-
 pub name_length : (w : WhichList) → length (name_text w) ≤ 17
 unfolding name_text
 name_length GeneralFree = omega arith
@@ -111,19 +102,27 @@ name_length GeneralRegions = omega arith
 name_length ReservedRegions = omega arith
 
 -- so has the line of a list that keeps the rules
-pub line_within : (l : Lists) (w : WhichList) {before after : List ℕ} {at next : ℕ} → rules l ≡ true → Puts (line_of w l) before at after next → next ≤ at + line_room
+pub line_few : (l : Lists) (w : WhichList) → rules l ≡ true → length (line_of w l) ≤ line_room
 unfolding list_line
-line_within l w ruled p =
+line_few l w ruled =
     let rs = entries (slots_at w l) in
     let count : length rs ≤ 512 = few l w ruled in
     let named : length (list_line w rs) ≡ length (name_text w) + (length (entries_text rs) + 2) = length-append (name_text w) (entries_text rs ++ line_end_text) ∙ ap (◌+◌ (length (name_text w))) (length-append (entries_text rs) line_end_text) in
-    omega (arith, p.place, named, name_length w, entries_length rs)
+    omega (arith, named, name_length w, entries_length rs)
 
--- the entries put of the list's own part are those of the list, and take no more than their room
-module _ {h : Header} {ls : List ℕ} (u : Ruled h ls) (w : WhichList) {p : Part} {from to : ℕ} (q : p ≡ part_in w h) (f : from ≡ part_of (width h.sorted) w) (t : to ≡ part_of (width h.sorted) w + width h.sorted)
-    {before after : List ℕ} {at next : ℕ} (put : Puts (entries_text (entries (part_slots p (take (to - from) (drop from ls))))) before at after next) where
-  pub own_entries : Puts (entries_text (entries (slots_at w (lists_in h ls)))) before at after next
-  own_entries = subst (λ (s : List Slot). Puts (entries_text (entries s)) before at after next) (lent_slots h ls u w q f t) put
+pub line_within : (l : Lists) (w : WhichList) (before : List ℕ) {after : List ℕ} → rules l ≡ true → after ≡ before ++ line_of w l → length after ≤ length before + line_room
+line_within l w before ruled put = omega (arith, after_text (line_of w l) before put, line_few l w ruled)
 
-  pub own_within : next ≤ at + entries_room
-  own_within = entries_within _ (few (lists_in h ls) w u.keeps) own_entries
+-- the entries of one of the lists are those of the list, and take no more than their room
+module _ (l : FourLists) (w : WhichList) {s : List Slot} (e : s ≡ slots_at w (lists_of l)) (before : List ℕ) {after : List ℕ} (put : after ≡ before ++ entries_text (entries s)) where
+  pub own_entries : after ≡ before ++ entries_text (entries (slots_at w (lists_of l)))
+  own_entries = put ∙ ap (λ (x : List Slot). before ++ entries_text (entries x)) e
+
+  pub own_within : length after ≤ length before + entries_room
+  own_within =
+      omega (
+        arith,
+        after_text (entries_text (entries (slots_at w (lists_of l)))) before own_entries,
+        entries_length (entries (slots_at w (lists_of l))),
+        few (lists_of l) w l.ruled.keeps,
+      )

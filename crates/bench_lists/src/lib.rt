@@ -1,69 +1,64 @@
 // The line that `framebench` prints for one of the four lists: document 01, "The bench program".
 #![tactic(auto)]
 
-ghost use Rattle.std.specs.Prelude.{◌≡◌, ◌+◌, ◌≤◌, length};
+ghost use Rattle.std.specs.Prelude.{◌≡◌, ◌+◌, ◌≤◌, ◌++◌, length};
 ghost use Rattle.model.specs.Lists.{entries};
-ghost use Rattle.entries.specs.Part.{part_slots, Holds, IsTidy};
-ghost use Rattle.entries.specs.Whole.{lists_in, Ruled};
-ghost use Rattle.bench_texts.specs.Texts.{Puts};
+ghost use Rattle.entries.specs.Listed.{list_slots, lists_of};
+ghost use Rattle.bench_texts.specs.Texts.{out_room};
 ghost use Rattle.bench_lists.specs.ListLines.{entry_room, entries_room, line_room, entry_text, entries_text, name_text, line_of};
 
-use bench_texts::{put_range, put_text};
-use entries::{Header, Part, WhichList};
+use bench_texts::{Out, put_range, put_text};
+use entries::{FourLists, List, WhichList};
 use memory_structs::FrameRange;
 
-// Puts the line at a place, and answers the place after it.
-#[tactic(auto, using(entries::proofs::Whole::lent_fits, entries::proofs::Whole::lent_tidy, crate::proofs::Going::name_length))]
-pub fn put_list(out: &mut [u8], at: usize, h: Header, lists: &[u64], which: WhichList) -> usize
-    requires ruled { Ruled h lists.now }
-    requires line_room_in_bounds { at + line_room ≤ length out.old }
-    ensures { Puts (line_of which (lists_in h lists.now)) out.old at out.new result }
+// Puts the line after what is there.
+#[tactic(auto, using(crate::proofs::Going::name_length))]
+pub fn put_list(out: &mut Out, lists: FourLists, which: WhichList)
+    requires { length out.old.items + line_room ≤ out_room }
+    ensures { out.new.items ≡ out.old.items ++ line_of which (lists_of lists.entry) }
 {
-    let entries_at = put_name(out, at, which);
-    let words = h.words_of(which);
-    let end_at = put_entries(out, entries_at, h.part(which), &lists[words]);
-    put_text(out, end_at, b")\n")
+    put_name(out, which);
+    put_entries(out, lists.list(which));
+    put_text(out, b")\n");
 }
 
-fn put_name(out: &mut [u8], at: usize, which: WhichList) -> usize
-    requires { at + line_room ≤ length out.old }
-    ensures { Puts (name_text which) out.old at out.new result }
+#[tactic(auto, unfolding(crate::specs::ListLines::name_text))]
+fn put_name(out: &mut Out, which: WhichList)
+    requires { length out.old.items + line_room ≤ out_room }
+    ensures { out.new.items ≡ out.old.items ++ name_text which }
 {
     match which {
-        WhichList::GeneralFree => put_text(out, at, b"(general-free"),
-        WhichList::ReservedFree => put_text(out, at, b"(reserved-free"),
-        WhichList::GeneralRegions => put_text(out, at, b"(general-regions"),
-        WhichList::ReservedRegions => put_text(out, at, b"(reserved-regions"),
+        WhichList::GeneralFree => put_text(out, b"(general-free"),
+        WhichList::ReservedFree => put_text(out, b"(reserved-free"),
+        WhichList::GeneralRegions => put_text(out, b"(general-regions"),
+        WhichList::ReservedRegions => put_text(out, b"(reserved-regions"),
     }
 }
 
 // The pairs of a table, or the slots that are used: a slot that is not used holds the empty range.
-fn put_entries(out: &mut [u8], at: usize, part: Part, t: &[u64]) -> usize
-    requires tidy { IsTidy part t.now }
-    requires entries_room_in_bounds { at + entries_room ≤ length out.old }
-    ensures { Puts (entries_text (entries (part_slots part t.now))) out.old at out.new result }
+fn put_entries(out: &mut Out, list: List)
+    requires { length out.old.items + entries_room ≤ out_room }
+    ensures { out.new.items ≡ out.old.items ++ entries_text (entries (list_slots list.entry)) }
 {
-    let mut next = at;
-    for i in 0..slots_in(part, t) {
-        let slot = part.entry(t, i);
+    for i in 0..slots_in(list) {
+        let slot = list.entry(i);
         if !slot.is_empty() {
-            next = put_entry(out, next, slot);
+            put_entry(out, slot);
         }
     }
-    next
 }
 
 // How many slots the list has.
-fn slots_in(part: Part, t: &[u64]) -> usize
-    requires { Holds part t.now }
-    ensures { result ≡ length (part_slots part t.now) }
+#[tactic(auto, using(entries::proofs::Forms::sorted_length, entries::proofs::Forms::early_length))]
+fn slots_in(list: List) -> usize
+    ensures { result ≡ length (list_slots list.entry) }
 {
-    if part.sorted { part.len } else { 32 }
+    if list.part.sorted { list.part.len } else { 32 }
 }
 
-fn put_entry(out: &mut [u8], at: usize, entry: FrameRange) -> usize
-    requires { at + entry_room ≤ length out.old }
-    ensures { Puts (entry_text entry) out.old at out.new result }
+fn put_entry(out: &mut Out, entry: FrameRange)
+    requires { length out.old.items + entry_room ≤ out_room }
+    ensures { out.new.items ≡ out.old.items ++ entry_text entry }
 {
-    put_range(out, at, b" (", entry, b")")
+    put_range(out, b" (", entry, b")");
 }

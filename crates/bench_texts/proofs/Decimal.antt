@@ -13,7 +13,7 @@ use Rattle.io.specs.Digits.{hex_digit_ascii, last_digits, IsDigitCount}
 use Rattle.lines.specs.Words.{decimal_of}
 use Rattle.std.proofs.Common.{Some}
 use Rattle.lines.proofs.Meaning.{one_digit, next_digit}
-use Rattle.bench_texts.specs.Texts.{Puts, digits_text, decimal_text, range_text}
+use Rattle.bench_texts.specs.Texts.{digits_text, decimal_text, range_text}
 
 last_digit : (n : ℕ) → hex_digit_ascii (n % 10) ≡ 48 + n % 10
 last_digit n = rw (lt-ltb (n % 10) 10 (omega arith))
@@ -59,9 +59,16 @@ at_most (suc k) n = go (ltb n 10) (at_most k (n / 10))
     go true tenth = omega arith
     go false tenth = omega (arith, length-append (digits_text k (n / 10)) ((48 + n % 10) ∷ []))
 
--- so a number takes 20 places at most
-pub within : (n : ℕ) {a b : List ℕ} {i j : ℕ} → Puts (decimal_text n) a i b j → j ≤ i + 20
-within n p = omega (arith, p.place, at_most 20 n)
+-- the digits that were written are the text
+pub digits_are : (n r : ℕ) → n < 2 ^ 64 → IsDigitCount 10 1 n r → last_digits 10 r n ≡ decimal_text n
+digits_are n r small f = as_digits 20 r n (enough n r small f) f
+
+-- how much is there after a text, and after a number
+pub after_text : (text before : List ℕ) {after : List ℕ} → after ≡ before ++ text → length after ≡ length before + length text
+after_text text before is = ap length is ∙ length-append before text
+
+pub after_number : (n : ℕ) (before : List ℕ) {after : List ℕ} → after ≡ before ++ decimal_text n → length after ≤ length before + 20
+after_number n before is = omega (arith, after_text (decimal_text n) before is, at_most 20 n)
 
 -- and a range two numbers and a space
 pub range_length : (opening closing : List ℕ) (r : FrameRange) → length (range_text opening r closing) ≤ length opening + length closing + 41

@@ -1,13 +1,13 @@
 -- What the bench program writes. The words in quotes are document 01's, or the bytes of a text; a line ends with byte 10, "\n".
-use Rattle.std.specs.Prelude.{ℕ, zero, suc, ◌+◌, ◌/◌, ◌%◌, ◌≡◌, cond, List, [], ◌∷◌, ◌++◌, length, take, drop, ltb, eqb}
+use Rattle.std.specs.Prelude.{ℕ, zero, suc, ◌+◌, ◌/◌, ◌%◌, cond, List, [], ◌∷◌, ◌++◌, ltb, eqb}
 use Rattle.memory_structs.specs.Range.{is_empty}
 use Rattle.memory_structs.specs.declared.range.FrameRange.{FrameRange}
 use Rattle.model.specs.declared.Answer.{Answer}
 
--- a text put at a place: the place after it, and the buffer with the text in it. Every other byte stays as it was.
-pub record Puts (text before : List ℕ) (at : ℕ) (after : List ℕ) (next : ℕ) : Type 0 where
-  pub place : next ≡ at + length text
-  pub bytes : after ≡ take at before ++ (text ++ drop (at + length text) before)
+-- how many bytes are printed for one line at most: four lists, a line each, with 17 bytes at most for the name, 44 for each of 512
+-- entries, and 2 for the end
+abbrev pub out_room : ℕ
+out_room = 90188
 
 -- a number in k decimal digits at most: below ten its digit, where 48 is "0"; else its tenth part's digits and its last one
 unfoldable pub digits_text : ℕ → ℕ → List ℕ

@@ -1,63 +1,67 @@
-// The texts that `framebench` writes, each put at a place of a lent buffer: document 01, "The bench program".
+// The texts that `framebench` writes, each put after what is there: document 01, "The bench program".
 #![tactic(auto)]
 
-ghost use Rattle.std.specs.Prelude.{◌+◌, ◌≤◌, length};
-ghost use Rattle.bench_texts.specs.Texts.{Puts, decimal_text, range_text, refusal_line, answer_line};
+ghost use Rattle.std.specs.Prelude.{◌≡◌, ◌+◌, ◌≤◌, ◌++◌, length};
+ghost use Rattle.bench_texts.specs.Texts.{out_room, decimal_text, range_text, refusal_line, answer_line};
 
+use arrayvec::ArrayVec;
 use memory_structs::FrameRange;
 use model::Answer;
 
-// Puts the text at a place, and answers the place after it. `out` and `at` are two parameters here and below: a struct that lends the
-// buffer has to be made anew at each place that a caller joins texts from, and `Puts` would speak of both its fields all the same.
-pub fn put_text(out: &mut [u8], at: usize, text: &[u8]) -> usize
-    requires { at + length text.now ≤ length out.old }
-    ensures { Puts text.now out.old at out.new result }
+// What is printed for one line: four lists at most, a line each (`out_room`).
+pub type Out = ArrayVec<u8, 90188>;
+
+// Puts the text after what is there.
+pub fn put_text(out: &mut Out, text: &[u8])
+    requires { length out.old.items + length text.now ≤ out_room }
+    ensures { out.new.items ≡ out.old.items ++ text.now }
 {
-    out[at..at + text.len()].copy_from_slice(text);
-    at + text.len()
+    // There is room, so that this does not fail.
+    let _ = out.try_extend_from_slice(text);
 }
 
 // The number in decimal: 20 digits at most. Not by `write!` to a `Cursor`: its `Result` could not fail here, and would be dropped.
-pub fn put_number(out: &mut [u8], at: usize, n: u64) -> usize
-    requires { at + 20 ≤ length out.old }
-    ensures { Puts (decimal_text n) out.old at out.new result }
+pub fn put_number(out: &mut Out, n: u64)
+    requires { length out.old.items + 20 ≤ out_room }
+    ensures { out.new.items ≡ out.old.items ++ decimal_text n }
 {
     let mut digits = [0u8; 20];
     let len = io::decimal(n, &mut digits);
-    put_text(out, at, &digits[..len])
+    put_text(out, &digits[..len]);
 }
 
 // The first and the last frame, between two texts.
-pub fn put_range(out: &mut [u8], at: usize, opening: &[u8], r: FrameRange, closing: &[u8]) -> usize
-    requires { at + length opening.now + length closing.now + 41 ≤ length out.old }
-    ensures { Puts (range_text opening.now r closing.now) out.old at out.new result }
+pub fn put_range(out: &mut Out, opening: &[u8], r: FrameRange, closing: &[u8])
+    requires { length out.old.items + length opening.now + length closing.now + 41 ≤ out_room }
+    ensures { out.new.items ≡ out.old.items ++ range_text opening.now r closing.now }
 {
-    let start_at = put_text(out, at, opening);
-    let space_at = put_number(out, start_at, r.start);
-    let end_at = put_text(out, space_at, b" ");
-    let closing_at = put_number(out, end_at, r.end);
-    put_text(out, closing_at, closing)
+    put_text(out, opening);
+    put_number(out, r.start);
+    put_text(out, b" ");
+    put_number(out, r.end);
+    put_text(out, closing);
 }
 
-// The line that a call prints, at the start of the buffer: "`(done)`, `(grant S E)` or `(no N)` with the refusal".
+// The line that a call prints: "`(done)`, `(grant S E)` or `(no N)` with the refusal".
 #[tactic(auto, unfolding(crate::specs::Texts::answer_line))]
-pub fn write_answer(out: &mut [u8], answer: Answer) -> usize
-    requires { 64 ≤ length out.old }
-    ensures { Puts (answer_line answer) out.old 0 out.new result }
+pub fn write_answer(out: &mut Out, answer: Answer)
+    requires { length out.old.items + 64 ≤ out_room }
+    ensures { out.new.items ≡ out.old.items ++ answer_line answer }
 {
     let range = answer.range;
     match answer.number {
-        0 if range.is_empty() => put_text(out, 0, b"(done)\n"),
-        0 => put_range(out, 0, b"(grant ", range, b")\n"),
+        0 if range.is_empty() => put_text(out, b"(done)\n"),
+        0 => put_range(out, b"(grant ", range, b")\n"),
         number => write_refusal(out, number),
     }
 }
 
-fn write_refusal(out: &mut [u8], number: u64) -> usize
-    requires { 64 ≤ length out.old }
-    ensures { Puts (refusal_line number) out.old 0 out.new result }
+#[tactic(auto, unfolding(crate::specs::Texts::refusal_line))]
+fn write_refusal(out: &mut Out, number: u64)
+    requires { length out.old.items + 64 ≤ out_room }
+    ensures { out.new.items ≡ out.old.items ++ refusal_line number }
 {
-    let number_at = put_text(out, 0, b"(no ");
-    let closing_at = put_number(out, number_at, number);
-    put_text(out, closing_at, b")\n")
+    put_text(out, b"(no ");
+    put_number(out, number);
+    put_text(out, b")\n");
 }

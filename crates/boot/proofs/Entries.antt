@@ -1,6 +1,7 @@
 -- Whether a record has an entry: in sorted form by the lengths of its tables, in early form by its slots.
 use Rattle.std.proofs.Common.{◌≡◌, ℕ, zero, suc, ◌+◌, Bool, true, false, not, ◌==◌, ◌||◌, List, [], ◌∷◌, length, drop, refl, sym, ap, arith}
 use borrow.Author.Tests.{ne_eqb}
+use mathlib.Core.Bool.{beq}
 use Rattle.std.specs.List.{list_any}
 use Rattle.model.specs.Lists.{entries}
 use Rattle.model.specs.Store.{zipped, slots_of, table_slots, slots_in, load, part}
@@ -25,7 +26,7 @@ abbrev count : EarlyList → ℕ
 count l = length (entries (slots_of l))
 
 -- each used slot has an entry
-zipped_entries : (ss es : List ℕ) (us : List Bool) → length ss ≡ length us → length es ≡ length us → list_any (λ flag. flag) us ≡ some (length (entries (zipped ss es us)))
+zipped_entries : (ss es : List ℕ) (us : List Bool) → length ss ≡ length us → length es ≡ length us → list_any (λ used. beq used true) us ≡ some (length (entries (zipped ss es us)))
 unfolding zipped entries
 zipped_entries [] [] [] p q = refl
 zipped_entries [] es (u ∷ us) p q = absurd (omega arith)
@@ -35,12 +36,12 @@ zipped_entries (s ∷ ss) [] (u ∷ us) p q = absurd (omega arith)
 zipped_entries (s ∷ ss) (e ∷ es) (true ∷ us) p q = sym (some_more _)
 zipped_entries (s ∷ ss) (e ∷ es) (false ∷ us) p q = zipped_entries ss es us (omega arith) (omega arith)
 
-pub used_entries : (l : EarlyList) → length l.starts ≡ length l.used → length l.ends ≡ length l.used → list_any (λ flag. flag) l.used ≡ some (count l)
+pub used_entries : (l : EarlyList) → length l.starts ≡ length l.used → length l.ends ≡ length l.used → list_any (λ used. beq used true) l.used ≡ some (count l)
 unfolding slots_of
 used_entries l starts ends = zipped_entries l.starts l.ends l.used starts ends
 
 -- one of four lists has an entry
-one_of_four : (m n o p : ℕ) → not (0 == m + n + o + p) ≡ (some m || (some n || (some o || (some p || false))))
+one_of_four : (m n o p : ℕ) → not (0 == m + n + o + p) ≡ (some m || (some n || (some o || some p)))
 one_of_four (suc m) n o p = rw (some_more m) (ap not (ne_eqb 0 (suc m + n + o + p) (λ e. omega (arith, e))))
 one_of_four zero (suc n) o p = rw (some_more n) (ap not (ne_eqb 0 (zero + suc n + o + p) (λ e. omega (arith, e))))
 one_of_four zero zero (suc o) p = rw (some_more o) (ap not (ne_eqb 0 (zero + zero + suc o + p) (λ e. omega (arith, e))))
@@ -48,12 +49,12 @@ one_of_four zero zero zero (suc p) = rw (some_more p) (ap not (ne_eqb 0 (zero + 
 one_of_four zero zero zero zero = refl
 
 module _ (a : FrameAllocator) (ws : List ℕ) where
-  pub sorted_entries : a.sorted ≡ true → list_any some (a.general_free_len ∷ a.reserved_free_len ∷ a.general_regions_len ∷ a.reserved_regions_len ∷ []) ≡ not (no_entries (load a ws))
+  pub sorted_entries : a.sorted ≡ true → not (no_entries (load a ws)) ≡ (some a.general_free_len || (some a.reserved_free_len || (some a.general_regions_len || some a.reserved_regions_len)))
   unfolding no_entries load slots_in
   sorted_entries e =
       rw (e, table_entries a.general_free_len (part 0 ws), table_entries a.reserved_free_len (part 1024 ws), table_entries a.general_regions_len (part 2048 ws), table_entries a.reserved_regions_len (part 3072 ws))
-      (sym (one_of_four a.general_free_len a.reserved_free_len a.general_regions_len a.reserved_regions_len))
+      (one_of_four a.general_free_len a.reserved_free_len a.general_regions_len a.reserved_regions_len)
 
-  pub early_entries : a.sorted ≡ false → list_any (λ flag. flag) (some (count a.general_free) ∷ some (count a.reserved_free) ∷ some (count a.general_regions) ∷ some (count a.reserved_regions) ∷ []) ≡ not (no_entries (load a ws))
+  pub early_entries : a.sorted ≡ false → not (no_entries (load a ws)) ≡ (some (count a.general_free) || (some (count a.reserved_free) || (some (count a.general_regions) || some (count a.reserved_regions))))
   unfolding no_entries load slots_in
-  early_entries e = rw e (sym (one_of_four (count a.general_free) (count a.reserved_free) (count a.general_regions) (count a.reserved_regions)))
+  early_entries e = rw e (one_of_four (count a.general_free) (count a.reserved_free) (count a.general_regions) (count a.reserved_regions))

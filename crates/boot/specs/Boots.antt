@@ -1,20 +1,12 @@
 -- Boot in the shape of its code. The words in quotes are document 01's.
-use Rattle.std.specs.Prelude.{ℕ, List, ltb}
+use Rattle.std.specs.Prelude.{ℕ, List}
 use Rattle.std.specs.Prelude.{if◌then◌else◌}
 use Rattle.model.specs.Lists.{Lists}
 use Rattle.model.specs.Boot as model
 use Rattle.model.specs.Calls.{no_entries}
 use Rattle.areas.specs.declared.BootArea.{BootArea}
-use Rattle.areas.specs.declared.Collected.{Collected}
 use Rattle.areas.specs.Areas.{extents, any_outside}
 
 -- "Order: 3, 11; boot then 10, 5, 4, 2, 7, 6": the number after 3 and 11
 unfoldable pub boot_number : Lists → List BootArea → ℕ
 boot_number l xs = if no_entries l then model.refusal (any_outside xs) (extents xs) else 10
-
--- "5, 4, 2"
-unfoldable pub refusal_of : Collected → ℕ
-refusal_of c =
-    if ltb 32 c.reserved.len then 5 else
-    if c.any_empty then 4 else
-    if c.any_outside then 2 else 0

@@ -2,7 +2,6 @@
 #![tactic(auto)]
 
 ghost use Rattle.std.specs.Prelude.{◌≡◌, ◌==◌, ℕ, List, length, not, Ok, Err, OnOk, OnErr};
-ghost use Rattle.std.specs.List.{list_any};
 ghost use Rattle.model.specs.Boot as model;
 ghost use Rattle.model.specs.Calls.{boot_call, boot_bytes_call, Gives, no_entries};
 ghost use Rattle.model.specs.Lists.{entries};
@@ -12,9 +11,9 @@ ghost use Rattle.model.specs.declared.refusals.Refusal.{Refusal};
 ghost use Rattle.rules.specs.Check.{verdict};
 ghost use Rattle.areas.specs.Areas.{areas_in, byte_areas_in, extents};
 ghost use Rattle.areas.specs.Boots.{boot_call_of};
-ghost use Rattle.boot.specs.Boots.{boot_number, refusal_of};
+ghost use Rattle.boot.specs.Boots.{boot_number};
 
-use areas::{AreaUnit, BootMap, Collected, WordAreas};
+use areas::{AreaUnit, BootMap, WordAreas};
 use model::{Answer, Called, EarlyList, FrameAllocator, Refusal};
 
 // Boots from areas given as first frame, last frame and kind. The workspace has 4,096 words in either form, else 3; it is read only in
@@ -36,7 +35,8 @@ pub fn init_from_bytes(a: FrameAllocator, areas: &[u64], words: &[u64]) -> Calle
     boot_map(a, &WordAreas { words: areas, unit }, words)
 }
 
-// A boot from areas in either unit, of a record whose test is known.
+// A boot from areas in either unit, of a record whose test is known. The verdict goes along and refuses here: a run of a record that is refused goes
+// on, and each of its calls answers the refusal.
 pub fn boot_words(
     a: FrameAllocator,
     tested: Result<(), Refusal>,
@@ -71,6 +71,7 @@ fn boot_tested<M: BootMap>(a: FrameAllocator, tested: Result<(), Refusal>, map: 
 }
 
 // "Order: 3, 11; boot then 10, 5, 4, 2, 7, 6"; else the lists are filled.
+#[tactic(auto, using(crate::proofs::Numbers::first_refusals, crate::proofs::Numbers::seven, crate::proofs::Numbers::joined_apart, crate::proofs::Numbers::six, crate::proofs::Numbers::fills, crate::proofs::Numbers::filled, crate::proofs::Given::ten, crate::proofs::Given::after_10))]
 fn fill<M: BootMap>(
     a: &mut FrameAllocator,
     tested: Result<(), Refusal>,
@@ -85,14 +86,9 @@ fn fill<M: BootMap>(
     if has_entries(a) {
         return Err(Refusal::NotEmpty);
     }
-    let collected = areas::collect(map);
-    check(&collected)?;
-    let pieces = areas::carve(map, &collected.reserved);
-    if 32 < pieces.len {
-        return Err(Refusal::TooManyPieces);
-    }
-    let mut joined = collected.reserved;
-    joining::join(&mut joined);
+    let reserved = areas::collect(map)?;
+    let pieces = areas::carve(map, &reserved)?;
+    let joined = joining::join(reserved);
     if !filling::are_disjoint(&pieces, &joined) {
         return Err(Refusal::PiecesMeet);
     }
@@ -101,52 +97,26 @@ fn fill<M: BootMap>(
 }
 
 // 10: "boot, and any list is not empty". In sorted form the record keeps how many entries there are; the words are not looked at.
+// A line for each list, as in all that meets the four (`FrameAllocator`).
+#[tactic(auto, using(crate::proofs::Entries::sorted_entries, crate::proofs::Entries::early_entries))]
 fn has_entries(a: &FrameAllocator) -> bool
     ensures { (ws : List ℕ) → result ≡ not (no_entries (load a.now ws)) }
 {
     if a.sorted {
-        return is_any(&[
-            a.general_free_len != 0,
-            a.reserved_free_len != 0,
-            a.general_regions_len != 0,
-            a.reserved_regions_len != 0,
-        ]);
+        return a.general_free_len != 0
+            || a.reserved_free_len != 0
+            || a.general_regions_len != 0
+            || a.reserved_regions_len != 0;
     }
-    is_any(&[
-        is_any_used(&a.general_free),
-        is_any_used(&a.reserved_free),
-        is_any_used(&a.general_regions),
-        is_any_used(&a.reserved_regions),
-    ])
+    is_any_used(&a.general_free)
+        || is_any_used(&a.reserved_free)
+        || is_any_used(&a.general_regions)
+        || is_any_used(&a.reserved_regions)
 }
 
 // Whether some slot is used.
 fn is_any_used(list: &EarlyList) -> bool
     ensures { result ≡ not (length (entries (slots_of list.now)) == 0) }
 {
-    is_any(&list.used)
-}
-
-// Whether one of the flags is true.
-fn is_any(flags: &[bool]) -> bool
-    ensures { result ≡ list_any (λ flag. flag) flags.now }
-{
-    flags.iter().any(|flag| *flag)
-}
-
-// 5, 4 and 2, in this order: what refuses a boot before any area is carved.
-#[tactic(auto, unfolding(crate::specs::Boots::refusal_of))]
-fn check(collected: &Collected) -> Result<(), Refusal>
-    ensures { refused_by result ≡ refusal_of collected.now }
-{
-    if 32 < collected.reserved.len {
-        return Err(Refusal::TooManyReservedAreas);
-    }
-    if collected.any_empty {
-        return Err(Refusal::EmptyReservedArea);
-    }
-    if collected.any_outside {
-        return Err(Refusal::OutOfBounds);
-    }
-    Ok(())
+    list.used.contains(&true)
 }

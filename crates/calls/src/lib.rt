@@ -55,7 +55,8 @@ fn perform(a: FrameAllocator, words: &mut [u64], operation: Operation) -> Called
     called
 }
 
-// On an allocator that stands open, whose entries are the workspace in sorted form and the slots in early form.
+// On an allocator that stands open, whose entries are the workspace in sorted form and the slots in early form: the header goes by value, and both
+// are lent.
 pub fn operate(h: Header, slots: &mut [u64], words: &mut [u64], operation: Operation) -> Answered
     requires { Ruled h (lent h.sorted slots.old words.old) }
     ensures { DoesOpen (answer (call_of operation)) h slots.old words.old result slots.new words.new }

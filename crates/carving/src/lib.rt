@@ -1,66 +1,30 @@
 // Carving: a general area without its reserved areas. Document 01, "Carving" (000, `check_and_add_free_region`).
 #![tactic(auto)]
 
-ghost use Rattle.std.specs.Prelude.{◌≡◌, [], ◌∷◌, ◌≤◌, length};
+ghost use Rattle.std.specs.Prelude.{◌≡◌, ◌++◌, ◌<◌, ◌≤◌, length, OnOk, OnErr, IfErr};
 ghost use Rattle.memory_structs.specs.Range as range;
 ghost use Rattle.model.specs.Carving as model;
-ghost use Rattle.carving.specs.Ranges.{listed, ranges_in, Carvable, Appended};
+ghost use Rattle.model.specs.declared.refusals.Refusal.TheVariants.{TooManyPieces};
+ghost use Rattle.carving.specs.Ranges.{Carvable};
 
+use arrayvec::ArrayVec;
 use memory_structs::FrameRange;
+use model::Refusal;
 
-// Ranges in the order in which they came, the first 32 of them. `len` is 33 where there are more: no heap stores them, and boot's 5 and 7 ask
-// only whether there are more.
-#[derive(Clone, Copy)]
-pub struct RangeList {
-    pub ranges: [FrameRange; 32],
-    pub len: usize,
-}
+// Ranges in the order in which they came. Neither boot's reserved areas (5) nor its pieces (7) are more than 32.
+pub type RangeList = ArrayVec<FrameRange, 32>;
 
-impl RangeList {
-    // A list of no ranges.
-    #[tactic(auto, unfolding(crate::specs::Ranges::listed, crate::specs::Ranges::padded))]
-    pub fn new() -> RangeList
-        ensures { result ≡ listed [] }
-    {
-        RangeList {
-            ranges: [FrameRange::EMPTY; 32],
-            len: 0,
-        }
+// A piece goes in where it has a frame. The 33rd is refused.
+#[tactic(auto, unfolding(model::specs::Carving::piece))]
+fn push_piece(pieces: &mut RangeList, piece: FrameRange) -> Result<(), Refusal>
+    ensures ok { OnOk result (pieces.new.items ≡ pieces.old.items ++ model.piece piece.start piece.end) }
+    ensures err { IfErr result (λ refusal. refusal ≡ TooManyPieces) }
+    ensures many { OnErr result (32 < length (pieces.old.items ++ model.piece piece.start piece.end)) }
+{
+    if piece.is_empty() {
+        return Ok(());
     }
-
-    // The ranges of a list that has stored all of them.
-    #[tactic(auto, unfolding(crate::specs::Ranges::ranges_in))]
-    pub fn as_slice(&self) -> &[FrameRange]
-        requires { self.now.len ≤ 32 }
-        ensures ranges { result.now ≡ ranges_in self.now }
-        ensures few { length result.now ≤ 32 }
-    {
-        &self.ranges[..self.len]
-    }
-
-    // The range goes in at the end; the 33rd is counted and not stored.
-    #[tactic(auto, using(crate::proofs::Listed::pushed, crate::proofs::Listed::counted))]
-    pub fn push(&mut self, range: FrameRange)
-        ensures { Appended self.old (range ∷ []) self.new }
-    {
-        if 32 <= self.len {
-            self.len = 33;
-            return;
-        }
-        self.ranges[self.len] = range;
-        self.len += 1;
-    }
-
-    // A piece goes in where it has a frame.
-    #[tactic(auto, unfolding(model::specs::Carving::piece))]
-    fn push_piece(&mut self, piece: FrameRange)
-        ensures { Appended self.old (model.piece piece.start piece.end) self.new }
-    {
-        if piece.is_empty() {
-            return;
-        }
-        self.push(piece);
-    }
+    pieces.try_push(piece).map_err(|_| Refusal::TooManyPieces)
 }
 
 // The frame, or the first one past the reserved area that holds it.
@@ -77,24 +41,30 @@ fn past(reserved: FrameRange, frame: u64) -> u64
 
 // The pieces of an area that are not reserved: those above before those below. The reserved areas and the pieces are lent, since there may
 // be 33 calls at a time, one in another.
-pub fn check_and_add_free_region(reserved: &RangeList, area: FrameRange, pieces: &mut RangeList)
+#[tactic(auto, using(crate::proofs::Turns::turn_start, crate::proofs::Turns::area_low, crate::proofs::Turns::starts_above, crate::proofs::Turns::part_smaller, crate::proofs::Turns::part_many, crate::proofs::Turns::carved_stop, crate::proofs::Turns::carved_end))]
+pub fn check_and_add_free_region(
+    reserved: &[FrameRange],
+    area: FrameRange,
+    pieces: &mut RangeList,
+) -> Result<(), Refusal>
     requires { Carvable reserved.now }
-    ensures { Appended pieces.old (model.pieces (ranges_in reserved.now) area) pieces.new }
+    ensures ok { OnOk result (pieces.new.items ≡ pieces.old.items ++ model.pieces reserved.now area) }
+    ensures err { IfErr result (λ refusal. refusal ≡ TooManyPieces) }
+    ensures many { OnErr result (32 < length (pieces.old.items ++ model.pieces reserved.now area)) }
 {
     let mut start = area.start;
     let mut end = area.end;
-    for &next in reserved.as_slice() {
+    for &next in reserved {
         start = past(next, start);
         if start <= next.start && next.start <= end {
             if end <= next.end {
                 // The rest of the area is reserved.
-                pieces.push_piece(FrameRange::new(start, next.start - 1));
-                return;
+                return push_piece(pieces, FrameRange::new(start, next.start - 1));
             }
             let above = FrameRange::new(next.end + 1, end);
-            check_and_add_free_region(reserved, above, pieces);
+            check_and_add_free_region(reserved, above, pieces)?;
             end = next.start - 1;
         }
     }
-    pieces.push_piece(FrameRange::new(start, end));
+    push_piece(pieces, FrameRange::new(start, end))
 }

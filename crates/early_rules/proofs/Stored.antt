@@ -12,6 +12,7 @@ use borrow.Author.Tests.{leb-true, eqb-true}
 use Rattle.memory_structs.specs.Range.{top}
 use Rattle.memory_structs.proofs.Bools.{both_first, both_second}
 use Rattle.memory_structs.specs.declared.range.FrameRange.{FrameRange}
+use Rattle.std.specs.List.{list_any}
 use Rattle.model.specs.Lists.{Slot, entries, all_of, disjoint, bound}
 use Rattle.model.specs.Rules.{slotted, tidy}
 use Rattle.model.specs.Store.{zipped, slots_of, emptied, none_used}
@@ -46,35 +47,21 @@ module _ (t : Bool → ℕ → ℕ → Bool) (l : EarlyList) (i : ℕ) (n : Arra
   unfolding each_slot
   each_done h = rw (drop_of_length-le l.starts {i = i} (omega (arith, n.starts)))
 
--- the slot is not used, and holds [1,0]
-unfoldable pub idle_slot : Bool → ℕ → ℕ → Bool
-idle_slot u s e = not u && (eqb s 1 && eqb e 0)
-
-module _ (u : Bool) (s e : ℕ) where
-  pub idle_used : u ≡ true → idle_slot u s e ≡ false
-  unfolding idle_slot
-  idle_used p = rw p
-
-  pub idle_numbers : (eqb s 1 && eqb e 0) ≡ false → idle_slot u s e ≡ false
-  unfolding idle_slot
-  idle_numbers p = ap (λ (b : Bool). not u && b) p ∙ and-false (not u)
-
-  pub idle_slot_holds : u ≡ false → (eqb s 1 && eqb e 0) ≡ true → idle_slot u s e ≡ true
-  unfolding idle_slot
-  idle_slot_holds p q = ap (λ (b : Bool). not b && (eqb s 1 && eqb e 0)) p ∙ q
-
-idle_each : (ss es : List ℕ) (us : List Bool) → length ss ≡ length es → length ss ≡ length us → (emptied ss es us && none_used us) ≡ each_slot idle_slot ss es us
-unfolding emptied none_used each_slot idle_slot
+-- no slot is used, and each holds [1,0]: each is plain, and none is used
+idle_each : (ss es : List ℕ) (us : List Bool) → length ss ≡ length es → length ss ≡ length us → (each_slot plain_slot ss es us && not (list_any (λ used. used) us)) ≡ (emptied ss es us && none_used us)
+unfolding emptied none_used each_slot plain_slot
 idle_each [] [] [] p q = refl
 idle_each [] [] (u ∷ us) p q = absurd (omega arith)
 idle_each [] (e ∷ es) us p q = absurd (omega arith)
 idle_each (s ∷ ss) [] us p q = absurd (omega arith)
 idle_each (s ∷ ss) (e ∷ es) [] p q = absurd (omega arith)
-idle_each (s ∷ ss) (e ∷ es) (true ∷ us) p q = and-false (emptied ss es us)
+idle_each (s ∷ ss) (e ∷ es) (true ∷ us) p q = and-false (leb s e && each_slot plain_slot ss es us) ∙ sym (and-false (emptied ss es us))
 idle_each (s ∷ ss) (e ∷ es) (false ∷ us) p q =
-    and_assoc (eqb s 1 && eqb e 0) (emptied ss es us) (none_used us) ∙ ap (λ (b : Bool). (eqb s 1 && eqb e 0) && b) (idle_each ss es us (omega arith) (omega arith))
+    and_assoc (eqb s 1 && eqb e 0) (each_slot plain_slot ss es us) (not (list_any (λ used. used) us))
+    ∙ ap (λ (b : Bool). (eqb s 1 && eqb e 0) && b) (idle_each ss es us (omega arith) (omega arith))
+    ∙ sym (and_assoc (eqb s 1 && eqb e 0) (emptied ss es us) (none_used us))
 
-pub idle_is : (l : EarlyList) → Arrays l → (emptied l.starts l.ends l.used && none_used l.used) ≡ each_from idle_slot 0 l
+pub idle_is : (l : EarlyList) → Arrays l → (plain l && not (list_any (λ used. used) l.used)) ≡ (emptied l.starts l.ends l.used && none_used l.used)
 idle_is l n = idle_each l.starts l.ends l.used (omega (arith, n.starts, n.ends)) (omega (arith, n.starts, n.flags))
 
 -- ---- plain slots

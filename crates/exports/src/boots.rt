@@ -1,5 +1,5 @@
 // Boot: document 01, "Boot". C hands over no enum, so that the areas are words, three to an area, the third of them the kind: 0 is
-// general, any other number reserved.
+// general, any other number reserved. The record is put back by a line in each call, as in `frame_allocator`.
 ghost use Rattle.model.specs.Calls.{Gives, boot_call, boot_bytes_call};
 ghost use Rattle.areas.specs.Areas.{areas_in, byte_areas_in};
 ghost use Rattle.rules.specs.Check.{answered_with};

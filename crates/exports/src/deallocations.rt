@@ -1,4 +1,4 @@
-// Returns: document 01, "Return". Frames are named by their numbers, not by their addresses.
+// Returns: document 01, "Return". Frames are named by their numbers, not by their addresses; a range comes as two, as the C header has it.
 ghost use Rattle.memory_structs.specs.Range.{range};
 ghost use Rattle.model.specs.Calls.{Gives, return_call};
 ghost use Rattle.rules.specs.Check.{answered_with};

@@ -17,7 +17,7 @@ pub extern "C" fn likhmout_kind_of_range(
 ) -> Answer
     ensures { Answers (kind_call (range start end)) a.now words.now result }
 {
-    frame_allocator::kind_of_range(*a, words, FrameRange { start, end })
+    frame_allocator::kind_of_range(a, words, FrameRange { start, end })
 }
 
 // count: how many frames are free. Kind 0 is general, any other number reserved.
@@ -25,7 +25,7 @@ pub extern "C" fn likhmout_kind_of_range(
 pub extern "C" fn likhmout_free_total(a: &FrameAllocator, words: &[u64], kind: u64) -> Answer
     ensures { Answers (total_call (kind_of_word kind)) a.now words.now result }
 {
-    frame_allocator::free_total(*a, words, Kind::from(kind))
+    frame_allocator::free_total(a, words, Kind::from(kind))
 }
 
 // count: how many runs are held. They are at the beginning of the buffer, as first and last frame, in an order that document 01 leaves
@@ -38,5 +38,5 @@ pub extern "C" fn likhmout_held_list(
 ) -> Answer
     ensures { ListsHeld a.now words.now buffer.old result buffer.new }
 {
-    frame_allocator::held_list(*a, words, buffer)
+    frame_allocator::held_list(a, words, buffer)
 }

@@ -26,6 +26,7 @@ pub extern "C" fn likhmout_contains_range(
 ) -> u64
     ensures { Written unit_words (contains_range (range start end) (range other_start other_end)) result out.new }
 {
+    // By cases: through `then_some` the search does not prove the clause.
     put(
         FrameRange::new(start, end)
             .contains_range(FrameRange::new(other_start, other_end))

@@ -1,5 +1,5 @@
-// The public face: every call of document 01. A call that changes the record changes it in place; a question
-// takes a copy, and the test reads it.
+// The public face: every call of document 01. A call that changes the record changes it in place; a question and the test read it. Each call
+// here takes two lines to do so, and no function does it for all: it would take the 2.2 KB record by value once more.
 #![tactic(auto)]
 
 ghost use Rattle.model.specs.Calls.{boot_call, boot_bytes_call, sort_call, return_call, Gives};
@@ -27,7 +27,7 @@ pub fn init(a: &mut FrameAllocator, areas: &[Area], words: &[u64]) -> Answer
     booted.answer
 }
 
-// Boots from areas given as address, size in bytes and kind.
+// Boots from areas given as address, size in bytes and kind. Two entries and no generic one: document 01 names both.
 pub fn init_from_bytes(a: &mut FrameAllocator, areas: &[ByteArea], words: &[u64]) -> Answer
     ensures { Gives (boot_bytes_call areas.now) a.old words.now (answered_with result a.new) words.now }
 {

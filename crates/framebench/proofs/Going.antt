@@ -1,7 +1,7 @@
 -- The parts of a text, as the loop takes them: each but the last ends in byte 10, which stands nowhere before.
 use native.Mathlib.Omega.{arith}
 use Prim.Native.Nat.{ℕ, suc, ◌+◌, ◌≤◌, ◌<◌, min}
-use mathlib.Core.Path.{◌≡◌, refl, sym, ap, subst, ◌∙◌}
+use mathlib.Core.Path.{◌≡◌, refl, sym, ap, ◌∙◌}
 use mathlib.Core.Bool.{false}
 use mathlib.Core.Logic.{⊎_elim}
 use mathlib.Core.List.{List, [], ◌∷◌, ◌++◌, append_assoc, append-nil}
@@ -15,7 +15,7 @@ use Rattle.std.proofs.lemmas.Grind.{common_steps}
 use Rattle.std.proofs.lemmas.List.Elements.{All-head, All-tail}
 use Rattle.bench_lines.specs.Commands.{command_of}
 use Rattle.bench_lines.specs.declared.Command.{Command}
-use Rattle.bench_lines.specs.Lines.{lines_from, rest_from, LineHeld}
+use Rattle.bench_lines.specs.Lines.{lines_from, rest_from, held}
 use Rattle.bench_lines.proofs.Lines.{lines_append, rest_append}
 use Rattle.bench_answers.specs.Answered.{State, answered, state_after}
 use Rattle.bench_answers.proofs.Lasting.{state_append}
@@ -83,15 +83,16 @@ module _ (came text w : List ℕ) (first : State) {s : State} (u : Unended w) (s
       ∙ ap (λ (ls : List (List ℕ)). state_after (lines_from came text ++ ls) first) (sym (no_line (rest_from came text) w u))
       ∙ ap (λ (ls : List (List ℕ)). state_after ls first) (sym (lines_append came text w))
 
-pub held_none : (came text w line : List ℕ) → Unended w → LineHeld (rest_from came (text ++ (w ++ (10 ∷ [])))) line 0
-held_none came text w line u =
-    subst (λ (r : List ℕ). LineHeld r line 0) (sym (rest_append came text (w ++ (10 ∷ [])) ∙ rest_of (rest_from came text) w u))
-    (record { fits = omega arith; bytes = sym (take_all (length line) [] (omega arith)) })
+pub held_none : (came text w : List ℕ) → Unended w → [] ≡ held (rest_from came (text ++ (w ++ (10 ∷ []))))
+held_none came text w u = ap held (sym (rest_append came text (w ++ (10 ∷ [])) ∙ rest_of (rest_from came text) w u))
 
-pub held_more : (came text w : List ℕ) → Unended w → {line : List ℕ} {len : ℕ} → LineHeld (rest_from came text ++ w) line len → LineHeld (rest_from came (text ++ w)) line len
-held_more came text w u {line} {len} = subst (λ (r : List ℕ). LineHeld r line len) (sym (rest_append came text w ∙ all_rest (rest_from came text) w u))
+pub held_more : (came text w : List ℕ) → Unended w → held (rest_from came text ++ w) ≡ held (rest_from came (text ++ w))
+held_more came text w u = ap held (sym (rest_append came text w ∙ all_rest (rest_from came text) w u))
+
+pub held_few : {line : List ℕ} (came : List ℕ) → line ≡ held came → length line ≤ 129
+held_few came is = omega (arith, ap length is, length-take 129 came)
 
 -- what is held before any of the text has come
-pub held_first : (line : List ℕ) (n : ℕ) → n ≤ length line → LineHeld (rest_from (take n line) []) line n
+pub held_first : (line : List ℕ) → length line ≤ 129 → line ≡ held (rest_from line [])
 unfolding rest_from
-held_first line n in-line = record { fits = in-line; bytes = sym (take_all (length line) (take n line) (omega (arith, length-take n line))) }
+held_first line in-line = sym (take_all 129 line in-line)

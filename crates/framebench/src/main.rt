@@ -12,66 +12,54 @@
 // A line above 128 bytes, and any other line, prints `(bad)`, and the next line is answered. A last line may lack its line end.
 #![tactic(auto)]
 
-ghost use Rattle.std.specs.Prelude.{◌≡◌, ◌≤◌, ◌<◌, length, take};
+ghost use Rattle.std.specs.Prelude.{◌≡◌, ◌≤◌, [], length};
 ghost use Rattle.io.specs.Counts.{IsPrefixLen};
 ghost use Rattle.bench_lines.specs.Commands.{command_of};
 ghost use Rattle.bench_answers.specs.Answered.{answered};
-ghost use Rattle.bench_answers.specs.Replies.{Replies, reply_room, state_of};
+ghost use Rattle.bench_answers.specs.Replies.{Ready, Replies, state_of};
 ghost use Rattle.framebench.specs.Reached.{ReadyAt, AnswersLines};
 
-use bench_answers::{Bench, Reply};
+use bench_answers::Bench;
+use bench_lines::Held;
+use bench_texts::Out;
 use std::io::Read;
 
 // Standard output.
 const STDOUT_FILENO: i32 = 1;
 
-// The bench, and how many bytes of the next line are held.
-#[derive(Clone, Copy)]
-struct Reached {
-    bench: Bench,
-    held: usize,
-}
-
-// What lives as long as the program: the bytes held of a line, the text of an answer, the areas collected, and the allocator's words.
+// What lives as long as the program: what is held of a line, the text of an answer, and the allocator's words.
 #[derive(Drop)]
 struct Buffers {
-    // One byte more than a line may have: see `bench_lines::hold`.
-    line: [u8; 129],
-    // Four lists, a line each: 17 bytes at most for the name, 44 for each of 512 entries, and 2 for the end.
-    out: [u8; 90188],
-    // 64 areas of each kind, three words to an area.
-    areas: [u64; 384],
+    line: Held,
+    out: Out,
     words: [u64; 4096],
 }
 
 fn main(rt: HostRuntime) {
     let mut chunk = [0u8; 4096];
     let mut buffers = Buffers {
-        line: [0; 129],
-        out: [0; 90188],
-        areas: [0; 384],
+        line: Held::new(),
+        out: Out::new(),
         words: [0; 4096],
     };
     run(&rt, &mut chunk, &mut buffers);
 }
 
-// A proved loop has to end, and nothing says that input does: so it has a bound that no run comes to.
+// A proved loop has to end, and nothing says that input does: so it has a bound that no run comes to. That the words are long enough is a clause: a
+// reference to a struct tells no length of its arrays.
 fn run(rt: &HostRuntime, chunk: &mut [u8], buffers: &mut Buffers)
-    requires { (128 < length buffers.old.line) × (reply_room ≤ length buffers.old.out) × (384 ≤ length buffers.old.areas) × (4096 ≤ length buffers.old.words) }
+    requires { (buffers.old.line.items ≡ []) × (4096 ≤ length buffers.old.words) }
 {
-    let mut reached = Reached {
-        bench: Bench::begin(),
-        held: 0,
-    };
+    let mut bench = Bench::begin();
     for _ in 0..u64::MAX {
         let n = read_some(rt, chunk);
         if n == 0 {
             break;
         }
-        reached = answer_lines(reached, &chunk[..n], buffers);
+        answer_lines(&mut bench, &chunk[..n], buffers);
     }
-    if reached.held != 0 {
-        answer_line(reached, buffers);
+    if !buffers.line.is_empty() {
+        answer_line(&mut bench, buffers);
     }
 }
 
@@ -83,37 +71,30 @@ fn read_some(rt: &HostRuntime, chunk: &mut [u8]) -> usize
 }
 
 // Answers each line that ends in the text, the first with the bytes held before, and holds what follows the last.
-fn answer_lines(reached: Reached, text: &[u8], buffers: &mut Buffers) -> Reached
-    requires { ReadyAt reached buffers.old.line buffers.old.out buffers.old.areas buffers.old.words }
-    ensures ready_at { ReadyAt result buffers.new.line buffers.new.out buffers.new.areas buffers.new.words }
-    ensures answers_lines { AnswersLines text.now reached buffers.old.line buffers.old.areas buffers.old.words result buffers.new.line buffers.new.areas buffers.new.words }
+fn answer_lines(bench: &mut Bench, text: &[u8], buffers: &mut Buffers)
+    requires { ReadyAt bench.old buffers.old.line.items buffers.old.words }
+    ensures ready_at { ReadyAt bench.new buffers.new.line.items buffers.new.words }
+    ensures answers_lines { AnswersLines text.now bench.old buffers.old.line.items buffers.old.words bench.new buffers.new.line.items buffers.new.words }
 {
-    let mut bench = reached.bench;
-    let mut held = reached.held;
     for part in text.split_inclusive(|b| *b == b'\n') {
         if let Some(line) = part.strip_suffix(b"\n") {
-            held = bench_lines::hold(&mut buffers.line, held, line);
-            bench = answer_line(Reached { bench, held }, buffers).bench;
-            held = 0;
+            bench_lines::hold(&mut buffers.line, line);
+            answer_line(bench, buffers);
         } else {
-            held = bench_lines::hold(&mut buffers.line, held, part);
+            bench_lines::hold(&mut buffers.line, part);
         }
     }
-    Reached { bench, held }
 }
 
 // Answers the line that is held, and writes what it prints before the next one is looked at.
-fn answer_line(reached: Reached, buffers: &mut Buffers) -> Reply
-    requires { ReadyAt reached buffers.old.line buffers.old.out buffers.old.areas buffers.old.words }
-    ensures kept { buffers.new.line ≡ buffers.old.line }
-    ensures replies { Replies (answered (command_of (take reached.held buffers.old.line)) (state_of reached.bench buffers.old.areas buffers.old.words)) buffers.old.out result buffers.new.out buffers.new.areas buffers.new.words }
+fn answer_line(bench: &mut Bench, buffers: &mut Buffers)
+    requires { Ready bench.old buffers.old.words }
+    ensures none_held { buffers.new.line.items ≡ [] }
+    ensures replies { Replies (answered (command_of buffers.old.line.items) (state_of bench.old buffers.old.words)) bench.new buffers.new.out.items buffers.new.words }
 {
-    let line = &buffers.line[..reached.held];
-    let out = &mut buffers.out;
-    let reply = reached
-        .bench
-        .answer(line, out, &mut buffers.areas, &mut buffers.words);
+    let line = buffers.line.as_slice();
+    bench.answer(line, &mut buffers.out, &mut buffers.words);
     // By the kit's `io`: std's writer would be lent from `main` to here, and its `Result` dropped, as the next line is answered anyway.
-    io::write_all(STDOUT_FILENO, &buffers.out[..reply.len]);
-    reply
+    io::write_all(STDOUT_FILENO, buffers.out.as_slice());
+    buffers.line.clear();
 }

@@ -1,4 +1,5 @@
 -- Runs as a stack, the newest first, and what they say of the held frames below a mark.
+use Rattle.model.proofs.Held.{bit_true}
 use Prim.Native.Nat.{ℕ, ◌+◌, ◌-◌, ◌≤◌, ◌<◌}
 use native.Mathlib.Omega.{arith}
 use mathlib.Core.Path.{◌≡◌, refl, sym, ap, subst, ◌∙◌}
@@ -126,10 +127,6 @@ module _ (H : ℕ → Bool) where
 
 -- ---- the whole list
 
-bit_one : (b : Bool) → 0 < bit b → b ≡ true
-bit_one true h = refl
-bit_one false h = absurd (omega arith)
-
 bit_none : (b : Bool) → bit b ≡ 0 → b ≡ false
 bit_none true h = absurd (omega arith)
 bit_none false h = refl
@@ -146,7 +143,7 @@ each_run l q (r ∷ rs) d a b = (
     held f c =
         let x = covers_low r f c in
         let y = covers_high r f c in
-        bit_one (is_held l f) (omega (arith, a f (omega (arith, y, d.1)), times_cons f r rs, cov_in r f x y))
+        bit_true (is_held l f) (omega (arith, a f (omega (arith, y, d.1)), times_cons f r rs, cov_in r f x y))
 
     below : (f : ℕ) → f + 1 ≡ r.start → is_held l f ≡ false
     below f e = bit_none (is_held l f) (omega (arith, a f (omega (arith, d.0, d.1)), times_cons f r rs, cov_below r f (omega arith), down_none (r.start - 1) rs d.2 f (omega arith)))

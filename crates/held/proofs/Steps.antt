@@ -1,29 +1,27 @@
--- Whether there is a next chunk, by where it starts.
-use Prim.Native.Nat.{ℕ, ◌+◌, ◌*◌, ◌≤◌, ◌<◌}
-use native.Mathlib.Omega.{arith}
-use mathlib.Core.Path.{◌≡◌, refl, sym}
+-- Whether there is a next chunk.
+use Prim.Native.Nat.{ℕ, ◌*◌, ◌<◌}
+use mathlib.Core.Path.{◌≡◌, refl}
 use mathlib.Core.Bool.{Bool, true, false}
 use mathlib.Core.List.{List}
 use lib.ListN.{get_or}
 use lib.Dec.{ltb}
-use borrow.Author.Tests.{ltb-true, ltb-false, lt-ltb, le-ltb}
-use Rattle.memory_structs.specs.Range.{top}
+use borrow.Author.Tests.{ltb-true, lt-ltb}
+use Rattle.std.specs.Prelude.{if◌then◌else◌, Option, None, Some}
 use Rattle.held.specs.Runs.{next_start}
 
 -- the next chunk
 module _ (n : ℕ) (ws : List ℕ) (j : ℕ) where
-  pub a_chunk : j < n → get_or ws (2 * j) 0 ≡ next_start n ws j
+  pub a_chunk : j < n → next_start n ws j ≡ Some (get_or ws (2 * j) 0)
   unfolding next_start
   a_chunk h = rw (lt-ltb j n h) refl
 
-  pub no_chunk : n ≤ j → top + 1 ≡ next_start n ws j
-  unfolding next_start
-  no_chunk h = rw (le-ltb j n h) refl
+  abbrev at : Bool → Option ℕ
+  at b = if b then Some (get_or ws (2 * j) 0) else None
 
-  -- at or below the top it is one
-  pub is_chunk : next_start n ws j ≤ top → (j < n) × (next_start n ws j ≡ get_or ws (2 * j) 0)
-  is_chunk h = go (ltb j n) refl
+  pub is_chunk : {x : ℕ} → next_start n ws j ≡ Some x → (j < n) × (x ≡ get_or ws (2 * j) 0)
+  unfolding next_start
+  is_chunk {x} e = go (ltb j n) refl e
     where
-      go : (b : Bool) → ltb j n ≡ b → (j < n) × (next_start n ws j ≡ get_or ws (2 * j) 0)
-      go true e = (ltb-true j n e, sym (a_chunk (ltb-true j n e)))
-      go false e = absurd (omega (arith, h, no_chunk (ltb-false j n e)))
+      go : (b : Bool) → ltb j n ≡ b → at b ≡ Some x → (j < n) × (x ≡ get_or ws (2 * j) 0)
+      go true t p = (ltb-true j n t, cc)
+      go false t p = absurd (cc)

@@ -7,7 +7,7 @@ use mathlib.Core.List.{List, [], ◌∷◌}
 use lib.ListN.{length, drop, length-append}
 use lib.Dec.{leb, ltb, eqb}
 use borrow.Author.Tests.{ltb-true, ltb-false}
-use Rattle.std.specs.Prelude.{if◌then◌else◌}
+use Rattle.std.specs.Prelude.{if◌then◌else◌, Some}
 use Rattle.memory_structs.specs.Range.{range, covers}
 use Rattle.memory_structs.specs.declared.range.FrameRange.{FrameRange}
 use Rattle.memory_structs.proofs.Cover.{cov, cov_in, cov_below, cov_above, covers_bit}
@@ -19,7 +19,7 @@ use Rattle.model.proofs.Cover.{tally}
 use Rattle.model.proofs.Trace.{bit}
 use Rattle.tables.proofs.Search.{pair_at, slots_cons}
 use Rattle.tables.proofs.Spaced.{Spaced, tidy_spaced, spaced_lower, none_under}
-use Rattle.tables.proofs.Sums.{tidy_few, tidy_pair}
+use Rattle.tables.proofs.Sums.{tidy_few}
 use Rattle.held.specs.Runs.{two_tables, next_start, put_count, put_words}
 use Rattle.held.proofs.Stack.{Upto, upto_none, join_run, put_run, upto_put, up, upto_held}
 use Rattle.held.proofs.Put.{stacked, stacked_length, put_words_holds, put_count_holds}
@@ -200,14 +200,9 @@ module _ {m : ℕ} {us : List ℕ} {n : ℕ} {ws base now : List ℕ} {i j from 
     abbrev first : ℕ
     first = max from r.start
 
-    -- the next chunk begins in or below the region, or above it
-    pub chunk_there : (x : ℕ) → x ≡ next_start n ws j → x ≤ r.end → (j < n) × (x ≡ (pair_at ws j).start)
-    chunk_there x e g =
-        let c = is_chunk n ws j (omega (arith, e, g, (tidy_pair m us w.regions_tidy i h).low)) in
-        (c.0, e ∙ c.1)
-
-    pub chunk_above : (x : ℕ) → x ≡ next_start n ws j → r.end < x → j < n → r.end < (pair_at ws j).start
-    chunk_above x e g o = omega (arith, e, g, a_chunk n ws j o)
+    -- the next chunk, as `next_start` answers it
+    pub chunk_there : {x : ℕ} → Some x ≡ next_start n ws j → (j < n) × (x ≡ (pair_at ws j).start)
+    chunk_there e = is_chunk n ws j (sym e)
 
     -- the frames from `first` up to e, not included, are put in, and all below q are done with
     put : (e q i' j' : ℕ) → Past m us i' q → Past n ws j' q → i + j + 1 ≤ i' + j' → Upto (is_held l) q (put_run first e w.stack) → (k' : ℕ) (now' : List ℕ) →
@@ -264,15 +259,15 @@ module _ {m : ℕ} {us : List ℕ} {n : ℕ} {ws base now : List ℕ} {i j from 
         q = max from ((pair_at ws j).end + 1)
 
     -- as the code has it: where the next chunk begins, the first frame put in and the new mark are numbers that it computed
-    pub chunk_done : {x f q k' : ℕ} {now' : List ℕ} → x ≡ next_start n ws j → x ≤ r.end → f ≡ first → q ≡ max from ((pair_at ws j).end + 1) →
+    pub chunk_done : {x f q k' : ℕ} {now' : List ℕ} → Some x ≡ next_start n ws j → x ≤ r.end → f ≡ first → q ≡ max from ((pair_at ws j).end + 1) →
         (k' ≡ put_count k f x now) × (now' ≡ put_words k f x now) → Walked m us n ws base now' i (j + 1) q k'
     chunk_done {x} {f} {q} {k'} {now'} e g p t u =
-        let c = chunk_there x e g in
+        let c = chunk_there e in
         subst (λ (q : ℕ). Walked m us n ws base now' i (j + 1) q k') (sym t)
         (chunk_turn c.0 (omega (arith, c.1, g)) k' now' (u.0 ∙ (λ v. put_count k (p v) (c.1 v) now)) (u.1 ∙ (λ v. put_words k (p v) (c.1 v) now)))
 
-    pub region_done : {x f q k' : ℕ} {now' : List ℕ} → x ≡ next_start n ws j → r.end < x → f ≡ first → q ≡ max from (r.end + 1) →
+    pub region_done : {f q k' : ℕ} {now' : List ℕ} → ((x : ℕ) → next_start n ws j ≡ Some x → r.end < x) → f ≡ first → q ≡ max from (r.end + 1) →
         (k' ≡ put_count k f (r.end + 1) now) × (now' ≡ put_words k f (r.end + 1) now) → Walked m us n ws base now' (i + 1) j q k'
-    region_done {x} {f} {q} {k'} {now'} e g p t u =
+    region_done {f} {q} {k'} {now'} above p t u =
         subst (λ (q : ℕ). Walked m us n ws base now' (i + 1) j q k') (sym t)
-        (region_turn (chunk_above x e g) k' now' (u.0 ∙ (λ v. put_count k (p v) (r.end + 1) now)) (u.1 ∙ (λ v. put_words k (p v) (r.end + 1) now)))
+        (region_turn (λ o. above _ (a_chunk n ws j o)) k' now' (u.0 ∙ (λ v. put_count k (p v) (r.end + 1) now)) (u.1 ∙ (λ v. put_words k (p v) (r.end + 1) now)))

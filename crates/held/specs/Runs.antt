@@ -1,7 +1,6 @@
 -- The held list's runs in the shape of their code. The words in quotes are document 01's.
 use Rattle.std.specs.Prelude.{ℕ, ◌+◌, ◌-◌, ◌*◌, Bool, true, false, List, [], get_or, set, leb, ltb, eqb}
-use Rattle.std.specs.Prelude.{if◌then◌else◌}
-use Rattle.memory_structs.specs.Range.{top}
+use Rattle.std.specs.Prelude.{if◌then◌else◌, Option, None, Some}
 use Rattle.model.specs.Lists.{Lists, Slot}
 
 -- lists with these general regions and these free chunks, and no others: all that says which frames are held
@@ -9,9 +8,9 @@ unfoldable pub two_tables : List Slot → List Slot → Lists
 two_tables regions chunks =
     record { sorted = true; general_free = chunks; reserved_free = []; general_regions = regions; reserved_regions = [] }
 
--- where the pair at j starts; above the top where there is none
-unfoldable pub next_start : ℕ → List ℕ → ℕ → ℕ
-next_start n ws j = if ltb j n then get_or ws (2 * j) 0 else top + 1
+-- where the pair at j starts, where there is one
+unfoldable pub next_start : ℕ → List ℕ → ℕ → Option ℕ
+next_start n ws j = if ltb j n then Some (get_or ws (2 * j) 0) else None
 
 -- the last of n pairs of words ends just below the frame
 unfoldable pub touches : ℕ → ℕ → List ℕ → Bool

@@ -7,11 +7,12 @@ ghost use Rattle.tables.specs.Slots.{slots};
 ghost use Rattle.model.specs.Queries.{HeldWritten};
 ghost use Rattle.held.specs.Runs.{two_tables, next_start, touches, put_count, put_words};
 
-use memory_structs::FrameRange;
 use std::ops::Range;
 use tables::Table;
 
-// The runs go to the beginning of the buffer, ascending. One walk over both tables: at each turn a region or a free chunk is done with.
+// The runs go to the beginning of the buffer, ascending. That it has 2,048 words is a clause here and in `query_core`: it may have more, and every
+// definition speaks of all of them. One walk over both tables: at each turn a region or a free chunk is done with.
+#[tactic(auto, using(tables::proofs::Sums::tidy_pair, crate::proofs::Walk::walk_length))]
 pub fn write_runs(regions: Table, chunks: Table, buffer: &mut [u64]) -> usize
     requires buffer_len { 2048 ≤ length buffer.old }
     requires regions_value { tidy true (slots regions) ≡ true }
@@ -27,32 +28,35 @@ pub fn write_runs(regions: Table, chunks: Table, buffer: &mut [u64]) -> usize
     while i < regions.len {
         let first = from.max(regions.words[2 * i]);
         let last = regions.words[2 * i + 1];
-        let chunk = next_start(chunks, j);
-        if chunk <= last {
-            runs = put_frames(buffer, runs, first..chunk);
-            from = from.max(chunks.words[2 * j + 1] + 1);
-            j += 1;
-        } else {
-            runs = put_frames(buffer, runs, first..last + 1);
-            from = from.max(last + 1);
-            i += 1;
+        match next_start(chunks, j) {
+            Some(chunk) if chunk <= last => {
+                runs = put_frames(buffer, runs, first..chunk);
+                from = from.max(chunks.words[2 * j + 1] + 1);
+                j += 1;
+            }
+            _ => {
+                runs = put_frames(buffer, runs, first..last + 1);
+                from = from.max(last + 1);
+                i += 1;
+            }
         }
     }
     runs
 }
 
-// The first frame of the chunk at j; a frame above the top where there is none.
+// The first frame of the chunk at j, where there is one.
 #[tactic(auto, unfolding(crate::specs::Runs::next_start))]
-fn next_start(chunks: Table, j: usize) -> u64
+fn next_start(chunks: Table, j: usize) -> Option<u64>
     ensures { result ≡ next_start chunks.entry.len chunks.entry.words.now j }
 {
     if j < chunks.len {
-        return chunks.words[2 * j];
+        return Some(chunks.words[2 * j]);
     }
-    FrameRange::TOP + 1
+    None
 }
 
-// The frames are held: they join the last run where they touch it, else they are a run.
+// The frames are held: they join the last run where they touch it, else they are a run. The runs are counted beside the buffer, which is the
+// caller's: C lends it.
 #[tactic(auto, unfolding(crate::specs::Runs::put_count, crate::specs::Runs::put_words, crate::specs::Runs::touches))]
 fn put_frames(buffer: &mut [u64], runs: usize, frames: Range<u64>) -> usize
     requires { 2 * runs + 2 ≤ length buffer.old }

@@ -1,5 +1,7 @@
 -- The turns of joining: of the first area over the others, of a pass over the areas, and of the passes.
-use Rattle.std.proofs.Common.{◌≡◌, ℕ, ◌+◌, ◌≤◌, ◌<◌, true, false, List, [], ◌∷◌, ◌++◌, length, get_or, drop, sym, ap, ◌∙◌, arith, add-one, drop-cons}
+use Rattle.std.proofs.Common.{◌≡◌, ℕ, zero, suc, ◌+◌, ◌≤◌, ◌<◌, Bool, true, false, List, [], ◌∷◌, ◌++◌, length, get_or, drop, refl, sym, ap, ◌∙◌, arith, add-one, drop-cons, length-append}
+use Rattle.std.specs.Prelude.{if◌then◌else◌}
+use mathlib.Core.Path.{ap₂}
 use mathlib.Core.List.{append_assoc, append-nil}
 use lib.ListN.{drop_of_length-le}
 use borrow.Author.Tests.{eq-eqb, ne_eqb}
@@ -8,24 +10,29 @@ use Rattle.memory_structs.specs.declared.range.FrameRange.{FrameRange}
 use Rattle.model.specs.Boot.{grown, left, pass, join}
 use Rattle.model.proofs.Boots.{left_length, pass_length}
 use Rattle.model.proofs.Joined.{one_pass, pass_step, join_step}
-use Rattle.carving.specs.declared.RangeList.{RangeList}
-use Rattle.carving.specs.Ranges.{listed, ranges_in, Whole, Appended}
-use Rattle.carving.proofs.Listed.{count, read_back, listed_whole, whole_length}
 
 -- what the first area, as it has grown, and the others from k on make
-pub record Absorbing (first : FrameRange) (others : List FrameRange) (area : FrameRange) (rest : RangeList) (k : ℕ) : Type 0 where
-  pub ys : List FrameRange
-  pub is : rest ≡ listed ys
+pub record Absorbing (first : FrameRange) (others : List FrameRange) (area : FrameRange) (rest : List FrameRange) (k : ℕ) : Type 0 where
+  pub few : length rest ≤ k
   pub grows : grown first others ≡ grown area (drop k others)
-  pub leaves : left first others ≡ ys ++ left area (drop k others)
+  pub leaves : left first others ≡ rest ++ left area (drop k others)
 
 module _ (first : FrameRange) (others : List FrameRange) where
-  module _ (area : FrameRange) (rest : RangeList) (k : ℕ) (a : Absorbing first others area rest k) where
-    pub absorb_end : length others ≤ k → (area ≡ grown first others) × (rest ≡ listed (left first others))
-    unfolding grown left
-    absorb_end h =
-        let d : drop k others ≡ [] = drop_of_length-le others {i = k} h in
-        (sym (a.grows ∙ ap (grown area) d), a.is ∙ ap listed (sym (a.leaves ∙ ap (λ (x : List FrameRange). a.ys ++ left area x) d ∙ append-nil a.ys)))
+  pub absorb_start : Absorbing first others first [] 0
+  absorb_start = record { few = omega arith; grows = refl; leaves = refl }
+
+  module _ (area : FrameRange) (rest : List FrameRange) (k : ℕ) (a : Absorbing first others area rest k) where
+    module _ (h : length others ≤ k) where
+      none : drop k others ≡ []
+      none = drop_of_length-le others {i = k} h
+
+      pub absorb_area : area ≡ grown first others
+      unfolding grown
+      absorb_area = sym (a.grows ∙ ap (grown area) none)
+
+      pub absorb_rest : rest ≡ left first others
+      unfolding left
+      absorb_rest = sym (a.leaves ∙ ap (λ (x : List FrameRange). rest ++ left area x) none ∙ append-nil rest)
 
     module _ (h : k < length others) where
       abbrev other : FrameRange
@@ -37,69 +44,77 @@ module _ (first : FrameRange) (others : List FrameRange) where
       pub absorb_met : meets area other ≡ true → Absorbing first others (hull area other) rest (k + 1)
       unfolding grown left
       absorb_met m = record {
-        ys = a.ys;
-        is = a.is;
+        few = omega (arith, a.few);
         grows = a.grows ∙ ap (grown area) here ∙ rw (grown, m);
-        leaves = a.leaves ∙ ap (λ (x : List FrameRange). a.ys ++ left area x) here ∙ rw m;
+        leaves = a.leaves ∙ ap (λ (x : List FrameRange). rest ++ left area x) here ∙ rw m;
       }
 
-      pub absorb_not : meets area other ≡ false → (next : RangeList) → Appended rest (other ∷ []) next → Absorbing first others area next (k + 1)
+      pub absorb_not : meets area other ≡ false → (next : List FrameRange) → next ≡ rest ++ other ∷ [] → Absorbing first others area next (k + 1)
       unfolding grown left
-      absorb_not m next p = record {
-        ys = a.ys ++ other ∷ [];
-        is = p a.ys a.is;
+      absorb_not m next e = record {
+        few = omega (arith, a.few, ap length e, length-append rest (other ∷ []));
         grows = a.grows ∙ ap (grown area) here ∙ rw (grown, m);
-        leaves = a.leaves ∙ ap (λ (x : List FrameRange). a.ys ++ left area x) here ∙ rw m
-            (sym (append_assoc a.ys (other ∷ []) (left area (drop (k + 1) others))));
+        leaves = a.leaves ∙ ap (λ (x : List FrameRange). rest ++ left area x) here ∙ rw (m, e)
+            (sym (append_assoc rest (other ∷ []) (left area (drop (k + 1) others))));
       }
 
--- the areas passed over, and those left
-pub record Passing (rs : List FrameRange) (joined todo : RangeList) : Type 0 where
-  pub ds : List FrameRange
-  pub done : joined ≡ listed ds
-  pub todo_whole : Whole todo
-  pub whole : one_pass rs ≡ ds ++ one_pass (ranges_in todo)
+-- the areas joined, and those left
+pub record Passing (rs joined todo : List FrameRange) : Type 0 where
+  pub few : length joined + length todo ≤ 32
+  pub whole : one_pass rs ≡ joined ++ one_pass todo
 
-module _ (rs : List FrameRange) (joined todo : RangeList) (p : Passing rs joined todo) where
-  pub passing_end : ranges_in todo ≡ [] → joined ≡ listed (one_pass rs)
+module _ (rs joined todo : List FrameRange) (p : Passing rs joined todo) where
+  pub passing_end : length todo ≡ 0 → joined ≡ one_pass rs
   unfolding pass
-  passing_end e = p.done ∙ ap listed (sym (p.whole ∙ ap (λ (x : List FrameRange). p.ds ++ one_pass x) e ∙ nothing))
+  passing_end h = sym (p.whole ∙ go todo h)
     where
-      nothing : p.ds ++ one_pass [] ≡ p.ds
-      nothing = append-nil p.ds
+      go : (l : List FrameRange) → length l ≡ 0 → joined ++ one_pass l ≡ joined
+      go [] e = append-nil joined
+      go (r ∷ l) e = absurd (omega arith)
 
-  module _ (c : FrameRange) (os : List FrameRange) (is : ranges_in todo ≡ c ∷ os) (rest : RangeList) (l : rest ≡ listed (left c os)) where
-    few : length (left c os) < todo.len
-    few = omega (arith, left_length c os, whole_length todo p.todo_whole, ap length is)
+  module _ (c : FrameRange) (os : List FrameRange) (is : todo ≡ c ∷ os) (rest : List FrameRange) (l : rest ≡ left c os) where
+    pub passing_smaller : length rest < length todo
+    passing_smaller = omega (arith, left_length c os, ap length is, ap length l)
 
-    pub passing_smaller : rest.len < todo.len
-    passing_smaller = omega (arith, few, count rest (left c os) l)
+    pub passing_more : (area : FrameRange) (next : List FrameRange) → area ≡ grown c os → next ≡ joined ++ area ∷ [] → Passing rs next rest
+    passing_more area next g e = record {
+      few = omega (arith, p.few, passing_smaller, ap length e, length-append joined (area ∷ []));
+      whole =
+          p.whole ∙ ap (λ (x : List FrameRange). joined ++ one_pass x) is
+          ∙ ap (λ (x : List FrameRange). joined ++ x) (pass_step c os ∙ ap (λ (x : FrameRange). x ∷ one_pass (left c os)) (sym g))
+          ∙ sym (append_assoc joined (area ∷ []) (one_pass (left c os))) ∙ rw (e, l);
+    }
 
-    pub passing_more : (area : FrameRange) (next : RangeList) → area ≡ grown c os → Appended joined (area ∷ []) next → Passing rs next rest
-    passing_more area next g q =
-        let small : length (left c os) ≤ 32 = omega (arith, few, p.todo_whole.few) in
-        record {
-          ds = p.ds ++ area ∷ [];
-          done = q p.ds p.done;
-          todo_whole = listed_whole rest (left c os) small l;
-          whole =
-              p.whole ∙ ap (λ (x : List FrameRange). p.ds ++ one_pass x) is
-              ∙ ap (λ (x : List FrameRange). p.ds ++ x) (pass_step c os ∙ ap (λ (x : FrameRange). x ∷ one_pass (left c os)) (sym g))
-              ∙ sym (append_assoc p.ds (area ∷ []) (one_pass (left c os)))
-              ∙ ap (λ (x : List FrameRange). (p.ds ++ area ∷ []) ++ one_pass x) (sym (ap ranges_in l ∙ read_back (left c os) small));
-        }
+-- a pass that joins nothing changes nothing
+left_same : (c : FrameRange) (os : List FrameRange) → length (left c os) ≡ length os → (left c os ≡ os) × (grown c os ≡ c)
+unfolding left grown
+left_same c [] h = (refl, refl)
+left_same c (o ∷ os) h = go (meets c o) (left_length (hull c o) os) (left_same c os) h
+  where
+    go : (b : Bool) → length (left (hull c o) os) ≤ length os → (length (left c os) ≡ length os → (left c os ≡ os) × (grown c os ≡ c)) →
+        length (if b then left (hull c o) os else o ∷ left c os) ≡ suc (length os) →
+        ((if b then left (hull c o) os else o ∷ left c os) ≡ o ∷ os) × (grown (if b then hull c o else c) os ≡ c)
+    go true l ih h = absurd (omega arith)
+    go false l ih h = let k : length (left c os) ≡ length os = omega arith in (ap (λ (x : List FrameRange). o ∷ x) (ih k).0, (ih k).1)
+
+pass_same : (n : ℕ) (rs : List FrameRange) → length (pass n rs) ≡ length rs → pass n rs ≡ rs
+unfolding pass
+pass_same zero rs e = refl
+pass_same (suc n) [] e = refl
+pass_same (suc n) (r ∷ rs) e =
+    let k : length (left r rs) ≡ length rs = omega (arith, left_length r rs, pass_length n (left r rs)) in
+    let same = left_same r rs k in
+    ap₂ ◌∷◌ same.1 (pass_same n (left r rs) (omega arith) ∙ same.0)
 
 -- passes until one joins nothing
-pub join_ends : (l next : RangeList) → Whole l → next ≡ listed (one_pass (ranges_in l)) → l.len ≤ next.len → l ≡ listed (join (ranges_in l))
-join_ends l next w e h =
-    let same : length (one_pass (ranges_in l)) ≡ length (ranges_in l) = omega (arith, pass_length (length (ranges_in l)) (ranges_in l), count next (one_pass (ranges_in l)) e, whole_length l w, w.few) in
-    w.is ∙ ap listed (sym (join_step (ranges_in l) ∙ rw (eq-eqb (length (one_pass (ranges_in l))) (length (ranges_in l)) same)))
+module _ (rs next : List FrameRange) (e : next ≡ one_pass rs) where
+  pub join_ends : length next ≡ length rs → next ≡ join rs
+  join_ends h =
+      let same : length (one_pass rs) ≡ length rs = omega (arith, ap length e) in
+      e ∙ pass_same (length rs) rs same ∙ sym (join_step rs ∙ rw (eq-eqb (length (one_pass rs)) (length rs) same))
 
-pub join_again : (l next : RangeList) → Whole l → next ≡ listed (one_pass (ranges_in l)) → next.len < l.len → Whole next × (join (ranges_in l) ≡ join (ranges_in next))
-join_again l next w e h =
-    let few : length (one_pass (ranges_in l)) ≤ 32 = omega (arith, pass_length (length (ranges_in l)) (ranges_in l), whole_length l w, w.few) in
-    let fewer : length (one_pass (ranges_in l)) < length (ranges_in l) = omega (arith, count next (one_pass (ranges_in l)) e, whole_length l w, w.few) in (
-      listed_whole next (one_pass (ranges_in l)) few e,
-      join_step (ranges_in l) ∙ rw (ne_eqb (length (one_pass (ranges_in l))) (length (ranges_in l)) (λ q. omega arith))
-          (ap join (sym (ap ranges_in e ∙ read_back (one_pass (ranges_in l)) few))),
-    )
+  pub join_again : (length next ≡ length rs → ⊥) → join rs ≡ join next
+  join_again h = join_step rs ∙ rw (ne_eqb (length (one_pass rs)) (length rs) (λ q. h (ap length e ∙ q))) (ap join (sym e))
+
+  pub join_smaller : (length next ≡ length rs → ⊥) → length next < length rs
+  join_smaller h = omega (arith, pass_length (length rs) rs, ap length e)

@@ -1,53 +1,48 @@
 // Reserved areas that overlap become one: document 01, "Boot" (000, `init`).
 #![tactic(auto)]
 
-ghost use Rattle.std.specs.Prelude.{◌≡◌, length};
+ghost use Rattle.std.specs.Prelude.{◌≡◌, ◌≤◌, length};
 ghost use Rattle.model.specs.Boot as model;
-ghost use Rattle.carving.specs.Ranges.{ranges_in, listed, Whole};
 
 use carving::RangeList;
 use memory_structs::FrameRange;
 
-// The first area of a list, grown, and those of the others that are left.
-#[derive(Clone, Copy)]
-struct Absorbed {
-    area: FrameRange,
-    rest: RangeList,
-}
-
 // "join reserved areas that overlap, pass by pass, into the earlier one (touching ones stay two)"
-pub fn join(areas: &mut RangeList)
-    requires { Whole areas.old }
-    ensures { areas.new ≡ listed (model.join (ranges_in areas.old)) }
+#[tactic(auto, using(crate::proofs::Joining::join_ends, crate::proofs::Joining::join_again, crate::proofs::Joining::join_smaller))]
+pub fn join(mut areas: RangeList) -> RangeList
+    ensures { result.items ≡ model.join areas.items }
 {
     loop {
-        let next = pass(areas);
-        if areas.len <= next.len {
-            return;
+        let len = areas.len();
+        areas = pass(areas);
+        if areas.len() == len {
+            return areas;
         }
-        *areas = next;
     }
 }
 
 // Each area in turn takes in the later ones that it meets.
-fn pass(areas: &RangeList) -> RangeList
-    requires { Whole areas.now }
-    ensures { result ≡ listed (model.pass (length (ranges_in areas.now)) (ranges_in areas.now)) }
+#[tactic(auto, using(crate::proofs::Joining::passing_end))]
+fn pass(areas: RangeList) -> RangeList
+    requires few { length areas.items ≤ 32 }
+    ensures { result.items ≡ model.pass (length areas.items) areas.items }
 {
     let mut joined = RangeList::new();
-    let mut left = *areas;
-    while let [first, others @ ..] = left.as_slice() {
-        let absorbed = absorb(*first, others);
-        joined.push(absorbed.area);
-        left = absorbed.rest;
+    let mut left = areas;
+    while let Some((first, others)) = left.split_first() {
+        let (area, rest) = absorb(*first, others);
+        joined.push(area);
+        left = rest;
     }
     joined
 }
 
-// The first area takes in each later one that it meets, as it has grown by then.
-fn absorb(first: FrameRange, others: &[FrameRange]) -> Absorbed
-    ensures area { result.area ≡ model.grown first others.now }
-    ensures rest { result.rest ≡ listed (model.left first others.now) }
+// The first area takes in each later one that it meets, as it has grown by then: it, grown, and those of the others that are left.
+#[tactic(auto, using(crate::proofs::Joining::absorb_start, crate::proofs::Joining::absorb_met, crate::proofs::Joining::absorb_not, crate::proofs::Joining::absorb_area, crate::proofs::Joining::absorb_rest))]
+fn absorb(first: FrameRange, others: &[FrameRange]) -> (FrameRange, RangeList)
+    requires few { length others.now ≤ 32 }
+    ensures area { result.0 ≡ model.grown first others.now }
+    ensures rest { result.1.items ≡ model.left first others.now }
 {
     let mut area = first;
     let mut rest = RangeList::new();
@@ -58,5 +53,5 @@ fn absorb(first: FrameRange, others: &[FrameRange]) -> Absorbed
             rest.push(other);
         }
     }
-    Absorbed { area, rest }
+    (area, rest)
 }

@@ -1,88 +1,80 @@
 -- Laws of words, and of putting their numbers in places.
 use native.Mathlib.Omega.{arith}
-use Prim.Native.Nat.{ℕ, suc, ◌+◌, ◌-◌, ◌*◌, ◌^◌, ◌≤◌, ◌<◌}
-use native.Mathlib.Numerals.{add-one}
+use Prim.Native.Nat.{ℕ, ◌+◌, ◌%◌, ◌≤◌, ◌<◌}
 use mathlib.Core.Path.{◌≡◌, refl, sym, ap, ◌∙◌}
-use mathlib.Core.Bool.{Bool, true, false, cond, ◌&&◌}
 use mathlib.Core.List.{List, [], ◌∷◌}
-use lib.ListN.{length, get_or, drop, drop_of_length-le}
-use lib.Seq.{drop-cons}
-use lib.Dec.{leb, ltb}
-use borrow.Author.Tests.{ltb-true, leb-true, le-leb, lt-leb, lt-ltb, le-ltb}
-use Rattle.lines.specs.Words.{number, with_digit, with_byte, with_bytes, decimal_of}
-use Rattle.lines.specs.Words.{next_word}
-use Rattle.lines.specs.Words.{Filled, filled, put_number, put_word, put_all}
+use lib.Dec.{eqb}
+use lib.ListN.{length, set, drop}
+use borrow.Author.Tests.{lt-ltb, le-ltb, eq-eqb, ne_eqb}
+use Rattle.lines.specs.Words.{Filled, filled, words_in, words_after, number_at, put_number, put_all, read_after, whole_areas, outcome, Reads}
+use Rattle.std.specs.Prelude.{Result, Ok, Err}
+use Rattle.lines.specs.declared.Unread.{Unread}
 use denote.Ref.{Bor}
-use Rattle.std.proofs.Common.{map, ◌++◌}
-use Rattle.std.proofs.Common.{Option, Some, None}
-use Rattle.lines.specs.declared.Reading.{Reading}
 use Rattle.lines.specs.declared.Layout.{Layout}
+use mathlib.Core.Bool.{Bool, true, false, ◌&&◌}
+use Rattle.std.proofs.Common.{map, ◌++◌, Some, None}
 
--- ---- one more digit
+-- what follows a name, where something does
+pub after_space : (t : List ℕ) → 1 ≤ length t → words_after t ≡ words_in (drop 1 t)
+unfolding words_after
+after_space [] some = absurd (omega arith)
+after_space (b ∷ t) some = refl
 
-pub not_a_digit : (n b : ℕ) → (48 ≤ b → 57 < b) → None ≡ with_digit n b
-unfolding with_digit
-not_a_digit n b other = go (leb 48 b) refl
-  where
-    go : (t : Bool) → leb 48 b ≡ t → None ≡ cond (t && leb b 57) (number (n * 10 + (b - 48))) None
-    go true e = rw (lt-leb b 57 (other (leb-true 48 b e)))
-    go false e = refl
+module _ (l : Layout) where
+  pub nothing_after : (t ws : List ℕ) → length t < 1 → Reads (read_after l t ws) (Ok 0) ws
+  unfolding words_after put_all
+  nothing_after [] ws none = record { count = refl; numbers = refl }
+  nothing_after (b ∷ t) ws none = absurd (omega arith)
 
-pub too_large : (n b : ℕ) → 48 ≤ b → b ≤ 57 → 2 ^ 64 ≤ n * 10 + (b - 48) → None ≡ with_digit n b
-unfolding with_digit number
-too_large n b low high large = rw (le-leb 48 b low, le-leb b 57 high, le-ltb (n * 10 + (b - 48)) (2 ^ 64) large)
+  -- one word more
+  put_more : (ts : List (Bor (List ℕ))) (t : Bor (List ℕ)) (p q : Filled) →
+      q ≡ put_all l (map (λ x. x.now) ts) p → put_number (number_at l q.len t.now) q ≡ put_all l (map (λ x. x.now) (ts ++ (t ∷ []))) p
+  unfolding put_all
+  put_more [] t p q so_far = ap (λ (f : Filled). put_number (number_at l f.len t.now) f) so_far
+  put_more (x ∷ ts) t p q so_far = put_more ts t (put_number (number_at l p.len x.now) p) q so_far
 
-pub one_more : (n b : ℕ) → 48 ≤ b → b ≤ 57 → n * 10 + (b - 48) < 2 ^ 64 → Some (n * 10 + (b - 48)) ≡ with_digit n b
-unfolding with_digit number
-one_more n b low high small = rw (le-leb 48 b low, le-leb b 57 high, lt-ltb (n * 10 + (b - 48)) (2 ^ 64) small)
+  module _ (ts : List (Bor (List ℕ))) (t : Bor (List ℕ)) (p : Filled) (len : ℕ) (v : Bool) (ws : List ℕ) (so_far : filled len v ws ≡ put_all l (map (λ x. x.now) ts) p) where
+    -- a word that is a number and has a place, one that has no place, and one that is no number
+    pub put_one : (n : ℕ) → Some n ≡ number_at l len t.now → len < length ws → filled (len + 1) v (set ws len n) ≡ put_all l (map (λ x. x.now) (ts ++ (t ∷ []))) p
+    unfolding put_number
+    put_one n is room = rw (← is, lt-ltb len (length ws) room) at (put_more ts t p (filled len v ws) so_far)
 
--- ---- the bytes of a word, from the i-th on
+    pub put_nowhere : (n : ℕ) → Some n ≡ number_at l len t.now → length ws ≤ len → filled len false ws ≡ put_all l (map (λ x. x.now) (ts ++ (t ∷ []))) p
+    unfolding put_number
+    put_nowhere n is full = rw (← is, le-ltb len (length ws) full) at (put_more ts t p (filled len v ws) so_far)
 
-pub decimal_starts : (bs : List ℕ) → 0 < length bs → decimal_of bs ≡ with_bytes (Some 0) bs
-unfolding decimal_of
-decimal_starts [] some = absurd (omega arith)
-decimal_starts (b ∷ bs) some = refl
+    pub put_none : None ≡ number_at l len t.now → filled len false ws ≡ put_all l (map (λ x. x.now) (ts ++ (t ∷ []))) p
+    unfolding put_number
+    put_none is = rw (← is) at (put_more ts t p (filled len v ws) so_far)
 
-pub decimal_empty : (bs : List ℕ) → length bs ≡ 0 → None ≡ decimal_of bs
-unfolding decimal_of
-decimal_empty [] none = refl
-decimal_empty (b ∷ bs) none = absurd (omega arith)
+  -- what was put of the words in the end
+  pub reads : (text before ws : List ℕ) (ts : List (List ℕ)) (len : ℕ) (v : Bool) (r : Result ℕ Unread) → 1 ≤ length text → ts ≡ words_in (drop 1 text) →
+      filled len v ws ≡ put_all l ts (filled 0 true before) → r ≡ outcome v len → Reads (read_after l text before) r ws
+  reads text before ws ts len v r some all so_far is =
+      let end = so_far ∙ ap (λ (xs : List (List ℕ)). put_all l xs (filled 0 true before)) (all ∙ sym (after_space text some)) in
+      record { count = is ∙ ap (λ (p : Filled). outcome p.valid p.len) end; numbers = ap (λ (p : Filled). p.numbers) end }
 
-none_stays : (bs : List ℕ) → with_bytes None bs ≡ None
-unfolding with_bytes with_byte
-none_stays [] = refl
-none_stays (b ∷ bs) = none_stays bs
+-- areas that are whole, that are not, and words that are none
+whole : (v : Bool) (n len : ℕ) → Ok len ≡ outcome v n → len % 3 ≡ 0 → Ok len ≡ outcome (v && eqb (n % 3) 0) n
+whole true n len is three = let same : len ≡ n = cc in rw (eq-eqb (n % 3) 0 (ap (λ (k : ℕ). k % 3) (sym same) ∙ three)) is
+whole false n len is three = absurd (cc)
 
-pub decimal_turn : (bs : List ℕ) (n m i : ℕ) → decimal_of bs ≡ with_bytes (Some n) (drop i bs) → i < length bs → Some m ≡ with_digit n (get_or bs i 0) →
-    decimal_of bs ≡ with_bytes (Some m) (drop (i + 1) bs)
-unfolding with_bytes with_byte
-decimal_turn bs n m i so_far more digit = so_far ∙ rw (drop-cons bs i 0 more, add-one i) (ap (λ (w : Option ℕ). with_bytes w (drop (suc i) bs)) (sym digit))
+not_whole : (v : Bool) (n len : ℕ) → Ok len ≡ outcome v n → (len % 3 ≡ 0 → ⊥) → ◌≡◌ {A = Result ℕ Unread} (Err (record { put = len })) (outcome (v && eqb (n % 3) 0) n)
+not_whole true n len is other =
+    let same : len ≡ n = cc in
+    rw (ne_eqb (n % 3) 0 (λ e. other (ap (λ (k : ℕ). k % 3) same ∙ e))) (ap (λ (k : ℕ). Err (record { put = k })) same)
+not_whole false n len is other = absurd (cc)
 
-pub decimal_stops : (bs : List ℕ) (n i : ℕ) → decimal_of bs ≡ with_bytes (Some n) (drop i bs) → i < length bs → None ≡ with_digit n (get_or bs i 0) → None ≡ decimal_of bs
-unfolding with_bytes with_byte
-decimal_stops bs n i so_far more other = sym (so_far ∙ rw (drop-cons bs i 0 more) (ap (λ (w : Option ℕ). with_bytes w (drop (suc i) bs)) (sym other) ∙ none_stays (drop (suc i) bs)))
+no_words : (v : Bool) (n : ℕ) (e : Unread) → Err e ≡ outcome v n → Err e ≡ outcome (v && eqb (n % 3) 0) n
+no_words true n e is = absurd (cc)
+no_words false n e is = is
 
-pub decimal_ends : (bs : List ℕ) (n i : ℕ) → decimal_of bs ≡ with_bytes (Some n) (drop i bs) → length bs ≤ i → Some n ≡ decimal_of bs
-unfolding with_bytes
-decimal_ends bs n i so_far all = sym (so_far ∙ rw (drop_of_length-le bs all))
+module _ {p : Filled} {r : Result ℕ Unread} {ws : List ℕ} (h : Reads p r ws) where
+  pub areas_whole : (len : ℕ) → r ≡ Ok len → len % 3 ≡ 0 → Reads (whole_areas p) (Ok len) ws
+  areas_whole len is three = record { count = whole p.valid p.len len (sym is ∙ h.count) three; numbers = h.numbers }
 
--- ---- numbers in their places
+  pub areas_not_whole : (len : ℕ) → r ≡ Ok len → (len % 3 ≡ 0 → ⊥) → Reads (whole_areas p) (Err (record { put = len })) ws
+  areas_not_whole len is other = record { count = not_whole p.valid p.len len (sym is ∙ h.count) other; numbers = h.numbers }
 
-number_within : (n : ℕ) (r : Reading) (ws : List ℕ) (t : Bool) → ltb r.len (length ws) ≡ t → r.len ≤ length ws →
-    (put_number n r ws).reading.len ≤ length ws
-unfolding put_number
-number_within n r ws true e in_place = rw e (omega (arith, ltb-true r.len (length ws) e))
-number_within n r ws false e in_place = rw e in_place
-
--- no more numbers are counted than there are places
-pub put_within : (w : Option ℕ) (r : Reading) (ws : List ℕ) → r.len ≤ length ws → (put_word w r ws).reading.len ≤ length ws
-unfolding put_word
-put_within (Some n) r ws in_place = number_within n r ws (ltb r.len (length ws)) refl in_place
-put_within None r ws in_place = in_place
-
--- one word more
-pub put_more : (l : Layout) (ts : List (Bor (List ℕ))) (t : Bor (List ℕ)) (p q : Filled) (w : Option ℕ) (r : Reading) (ws : List ℕ) →
-    filled r ws ≡ put_all l (map (λ x. x.now) ts) p → w ≡ next_word l r t.now → q ≡ put_word w r ws → q ≡ put_all l (map (λ x. x.now) (ts ++ (t ∷ []))) p
-unfolding put_all
-put_more l [] t p q w r ws so_far word put = put ∙ ap (λ (v : Option ℕ). put_word v r ws) word ∙ ap (λ (f : Filled). put_word (next_word l f.reading t.now) f.reading f.numbers) so_far
-put_more l (x ∷ ts) t p q w r ws so_far word put = put_more l ts t (put_word (next_word l p.reading x.now) p.reading p.numbers) q w r ws so_far word put
+  pub areas_none : (e : Unread) → r ≡ Err e → Reads (whole_areas p) (Err e) ws
+  areas_none e is = record { count = no_words p.valid p.len e (sym is ∙ h.count); numbers = h.numbers }

@@ -1,33 +1,24 @@
 -- The words of a line, the numbers that they stand for, and where these go. A text is a list of bytes.
-use Rattle.std.specs.Prelude.{ℕ, ◌+◌, ◌-◌, ◌*◌, ◌^◌, ◌%◌, Bool, true, false, cond, ◌&&◌, List, [], ◌∷◌, Option, Some, None, length, set, leb, ltb, eqb, ◌==◌}
+use Rattle.std.specs.Prelude.{ℕ, ◌≡◌, ◌+◌, ◌*◌, ◌-◌, ◌^◌, ◌%◌, Bool, true, false, cond, ◌&&◌, List, [], ◌∷◌, Option, Some, None, Result, length, set, ltb, eqb, ◌==◌}
 use Rattle.std.specs.List.{slice_split}
-use Rattle.std.specs.Str.{bytes_eq}
-use Rattle.lines.specs.declared.Reading.{Reading}
+use Rattle.std.specs.Bool.{then_some}
+use Rattle.std.specs.Option.{option_map, ok_or}
+use Rattle.std.specs.Str.{bytes_eq, all_ascii_digits}
 use Rattle.lines.specs.declared.Layout.{Layout}
+use Rattle.lines.specs.declared.Unread.{Unread}
 use Rattle.lines.specs.declared.Layout.TheVariants.{Numbers, Areas}
+use Rattle.model.specs.Words.{word_of}
+use Rattle.model.specs.declared.Kind.{Kind}
+use Rattle.model.specs.declared.Kind.TheVariants.{General, Reserved}
 
--- the number, where it is below 2^64
-unfoldable pub number : ℕ → Option ℕ
-number n = cond (ltb n (2 ^ 64)) (Some n) None
+-- the number that digits write after those of n, from the left: 48 is "0"
+unfoldable pub value_after : ℕ → List ℕ → ℕ
+value_after n [] = n
+value_after n (b ∷ bs) = value_after (n * 10 + (b - 48)) bs
 
--- the number with one more decimal digit, where the byte is one: 48 is "0" and 57 is "9"
-unfoldable pub with_digit : ℕ → ℕ → Option ℕ
-with_digit n b = cond (leb 48 b && leb b 57) (number (n * 10 + (b - 48))) None
-
--- once a byte is no digit, or the number is too large, the text is no number
-unfoldable pub with_byte : Option ℕ → ℕ → Option ℕ
-with_byte (Some n) b = with_digit n b
-with_byte None b = None
-
--- byte by byte, from the left
-unfoldable pub with_bytes : Option ℕ → List ℕ → Option ℕ
-with_bytes w [] = w
-with_bytes w (b ∷ bs) = with_bytes (with_byte w b) bs
-
--- the number that the text is in decimal; an empty one is none
+-- the number that the text is in decimal: one digit or more and nothing else, below 2^64
 unfoldable pub decimal_of : List ℕ → Option ℕ
-decimal_of [] = None
-decimal_of (b ∷ bs) = with_bytes (Some 0) (b ∷ bs)
+decimal_of bs = cond (all_ascii_digits bs && (ltb 0 (length bs) && ltb (value_after 0 bs) (2 ^ 64))) (Some (value_after 0 bs)) None
 
 -- the words of a text, parted by one space each, which is 32: a text with no space is one word, which may be empty
 abbrev pub words_in : List ℕ → List (List ℕ)
@@ -46,51 +37,51 @@ general_text = 103 ∷ 101 ∷ 110 ∷ 101 ∷ 114 ∷ 97 ∷ 108 ∷ []
 abbrev pub reserved_text : List ℕ
 reserved_text = 114 ∷ 101 ∷ 115 ∷ 101 ∷ 114 ∷ 118 ∷ 101 ∷ 100 ∷ []
 
--- the number that stands for a kind
-unfoldable pub kind_number : List ℕ → Option ℕ
-kind_number t = cond (bytes_eq t general_text) (Some 0) (cond (bytes_eq t reserved_text) (Some 1) None)
+-- the kind that a text names
+unfoldable pub kind_of : List ℕ → Option Kind
+kind_of t = cond (bytes_eq t general_text) (Some General) (cond (bytes_eq t reserved_text) (Some Reserved) None)
 
--- an area is two numbers and a kind
+-- an area is two numbers and a kind, as boot takes it: the third word stands for the kind
 unfoldable pub word_of_area : ℕ → List ℕ → Option ℕ
-word_of_area place t = cond (eqb place 2) (kind_number t) (decimal_of t)
+word_of_area place t = cond (eqb (place % 3) 2) (option_map word_of (kind_of t)) (decimal_of t)
 
--- what a reading takes the next text for
-unfoldable pub next_word : Layout → Reading → List ℕ → Option ℕ
-next_word Numbers r t = decimal_of t
-next_word Areas r t = word_of_area (r.len % 3) t
+-- what a word stands for by its place
+unfoldable pub number_at : Layout → ℕ → List ℕ → Option ℕ
+number_at Numbers place t = decimal_of t
+number_at Areas place t = word_of_area place t
 
--- whether each word was one of an area, and the last area is whole
-abbrev pub are_areas : Reading → Bool
-are_areas r = r.valid && eqb (r.len % 3) 0
-
--- a reading, and the lent words that its numbers went to
+-- how many numbers went to the lent words so far, whether each word was one and had room, and the lent words
 pub record Filled : Type 0 where
-  pub reading : Reading
+  pub len : ℕ
+  pub valid : Bool
   pub numbers : List ℕ
 
-abbrev pub filled : Reading → List ℕ → Filled
-filled r ws = record { reading = r; numbers = ws }
+abbrev pub filled : ℕ → Bool → List ℕ → Filled
+filled n v ws = record { len = n; valid = v; numbers = ws }
 
-abbrev pub nothing_read : Reading
-nothing_read = record { len = 0; valid = true }
+-- a number goes to the next place, where there is one; what is no number, or has no place, is not counted
+unfoldable pub put_number : Option ℕ → Filled → Filled
+put_number (Some n) p = cond (ltb p.len (length p.numbers)) (filled (p.len + 1) p.valid (set p.numbers p.len n)) (filled p.len false p.numbers)
+put_number None p = filled p.len false p.numbers
 
--- a word that is no number, or has no place, is not counted
-abbrev pub invalid : Reading → Reading
-invalid r = record { len = r.len; valid = false }
-
--- the number goes to the next place, where there is one
-unfoldable pub put_number : ℕ → Reading → List ℕ → Filled
-put_number n r ws = cond (ltb r.len (length ws)) (filled (record { len = r.len + 1; valid = r.valid }) (set ws r.len n)) (filled (invalid r) ws)
-
-unfoldable pub put_word : Option ℕ → Reading → List ℕ → Filled
-put_word (Some n) r ws = put_number n r ws
-put_word None r ws = filled (invalid r) ws
-
--- the word of each text, in turn
+-- the number of each text, in turn
 unfoldable pub put_all : Layout → List (List ℕ) → Filled → Filled
 put_all l [] p = p
-put_all l (t ∷ ts) p = put_all l ts (put_word (next_word l p.reading t) p.reading p.numbers)
+put_all l (t ∷ ts) p = put_all l ts (put_number (number_at l p.len t) p)
 
 -- the words of what follows a name, put from the first place on
 abbrev pub read_after : Layout → List ℕ → List ℕ → Filled
-read_after l text ws = put_all l (words_after text) (filled nothing_read ws)
+read_after l text ws = put_all l (words_after text) (filled 0 true ws)
+
+-- areas, the last of them whole
+abbrev pub whole_areas : Filled → Filled
+whole_areas p = filled p.len (p.valid && eqb (p.len % 3) 0) p.numbers
+
+-- how many numbers there are, where each word was one and had room; else how many were put all the same
+abbrev pub outcome : Bool → ℕ → Result ℕ Unread
+outcome valid n = ok_or (then_some valid n) (record { put = n })
+
+-- that is answered, and the lent words hold those that were put in any case
+pub record Reads (p : Filled) (answer : Result ℕ Unread) (ws : List ℕ) : Type 0 where
+  pub count : answer ≡ outcome p.valid p.len
+  pub numbers : ws ≡ p.numbers

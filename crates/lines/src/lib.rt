@@ -1,122 +1,100 @@
 // The words of a line of text, parted by one space: numbers in decimal, below 2^64, and kinds of areas, read into lent words. For the
-// programs that replay the Rust's answers.
+// programs that read lines. Lent words and no `Vec`: reading cannot fail for want of memory, and a clause names each word.
 #![tactic(auto)]
 
-ghost use Rattle.std.specs.Prelude.{◌≡◌, ◌≤◌, length, drop};
+ghost use Rattle.std.specs.Prelude.{◌≡◌, ◌≤◌, length, IfOk};
 ghost use Rattle.lines.specs.Words as words;
+ghost use Rattle.lines.specs.declared.Layout.TheVariants.{Numbers, Areas};
 
-// What the words that follow a name are: numbers, or areas of two numbers and a kind each.
+use model::Kind;
+
+// What the words that follow a name are: numbers, or areas of two numbers and a kind each. An enum and no trait: in a function with a type
+// parameter the toolchain refuses its own part of the proof of a `for` over `split`.
 #[derive(Clone, Copy)]
-pub enum Layout {
+enum Layout {
     Numbers,
     Areas,
 }
 
-// How many numbers were read, and whether each word stood for one and had room. Both at once, and no `Option` of the count: the numbers
-// after a word that stands for none are read too.
+// Not every word was a number that had room: so many numbers were put all the same.
 #[derive(Clone, Copy)]
-pub struct Reading {
-    pub len: usize,
-    pub valid: bool,
+pub struct Unread {
+    pub put: usize,
 }
 
-impl Reading {
-    pub fn nothing() -> Reading
-        ensures { result ≡ words.nothing_read }
-    {
-        Reading {
-            len: 0,
-            valid: true,
-        }
-    }
-
-    // Whether the words were areas, the last of them whole.
-    pub fn are_areas(self) -> bool
-        ensures { result ≡ words.are_areas self }
-    {
-        self.valid && self.len % 3 == 0
-    }
-
-    // Puts the next number in its place.
-    #[tactic(auto, unfolding(crate::specs::Words::put_word, crate::specs::Words::put_number))]
-    pub fn put(self, word: Option<u64>, numbers: &mut [u64]) -> Reading
-        ensures { words.filled result numbers.new ≡ words.put_word word self numbers.old }
-    {
-        match word {
-            Some(n) if self.len < numbers.len() => {
-                numbers[self.len] = n;
-                Reading {
-                    len: self.len + 1,
-                    valid: self.valid,
-                }
-            }
-            _ => Reading {
-                len: self.len,
-                valid: false,
-            },
-        }
-    }
-}
-
-// Reads the words that follow the name, which ends here.
-pub fn read_words(line: &[u8], name_end: usize, layout: Layout, numbers: &mut [u64]) -> Reading
-    ensures numbers_after { words.filled result numbers.new ≡ words.read_after layout (drop name_end line.now) numbers.old }
-    ensures len_in_bounds { result.len ≤ length numbers.new }
+// Reads the numbers that follow a name: how many they are, where each word is one and has room. Their count, and no slice of them: a lent
+// buffer that goes into the result has no value after the call that a clause could name.
+pub fn read_numbers(text: &[u8], numbers: &mut [u64]) -> Result<usize, Unread>
+    ensures reads { words.Reads (words.read_after Numbers text.now numbers.old) result numbers.new }
+    ensures len_in_bounds { IfOk result (λ len. len ≤ length numbers.new) }
 {
-    let mut read = Reading::nothing();
-    if line.len() <= name_end {
-        return read;
-    }
-    // Past the space.
-    for word in line[name_end + 1..].split(|b| *b == b' ') {
-        read = read.put(next_word(layout, read, word), numbers);
-    }
-    read
+    read_words(text, Layout::Numbers, numbers)
 }
 
-// The third word of an area is its kind.
-#[tactic(auto, unfolding(crate::specs::Words::next_word, crate::specs::Words::word_of_area))]
-fn next_word(layout: Layout, r: Reading, text: &[u8]) -> Option<u64>
-    ensures { result ≡ words.next_word layout r text.now }
+// Reads the areas that follow a name, the last of them whole: how many numbers they are, where each word is one and has room.
+pub fn read_areas(text: &[u8], numbers: &mut [u64]) -> Result<usize, Unread>
+    ensures reads { words.Reads (words.whole_areas (words.read_after Areas text.now numbers.old)) result numbers.new }
+    ensures len_in_bounds { IfOk result (λ len. len ≤ length numbers.new) }
+{
+    let len = read_words(text, Layout::Areas, numbers)?;
+    if len % 3 != 0 {
+        return Err(Unread { put: len });
+    }
+    Ok(len)
+}
+
+// Reads the words that follow a name.
+fn read_words(text: &[u8], layout: Layout, numbers: &mut [u64]) -> Result<usize, Unread>
+    ensures reads { words.Reads (words.read_after layout text.now numbers.old) result numbers.new }
+    ensures len_in_bounds { IfOk result (λ len. len ≤ length numbers.new) }
+{
+    let [_space, words @ ..] = text else {
+        return Ok(0);
+    };
+    let mut len = 0;
+    // Both, and no early end: the numbers after a word that stands for none are put too, as the clause on the lent words says.
+    let mut valid = true;
+    for word in words.split(|b| *b == b' ') {
+        match number(layout, len, word) {
+            Some(n) if len < numbers.len() => {
+                numbers[len] = n;
+                len += 1;
+            }
+            _ => valid = false,
+        }
+    }
+    valid.then_some(len).ok_or(Unread { put: len })
+}
+
+// The number of a word by its place among those of its line: the third word of an area is its kind.
+#[tactic(auto, unfolding(crate::specs::Words::number_at, crate::specs::Words::word_of_area))]
+fn number(layout: Layout, place: usize, word: &[u8]) -> Option<u64>
+    ensures { result ≡ words.number_at layout place word.now }
 {
     match layout {
-        Layout::Areas if r.len % 3 == 2 => kind(text),
-        _ => decimal(text),
+        Layout::Areas if place % 3 == 2 => Some(u64::from(kind(word)?)),
+        _ => decimal(word),
     }
 }
 
-// 0 for `general` and 1 for `reserved`, as boot takes them.
-#[tactic(auto, unfolding(crate::specs::Words::kind_number))]
-fn kind(text: &[u8]) -> Option<u64>
-    ensures { result ≡ words.kind_number text.now }
+#[tactic(auto, unfolding(crate::specs::Words::kind_of))]
+fn kind(text: &[u8]) -> Option<Kind>
+    ensures { result ≡ words.kind_of text.now }
 {
     match text {
-        b"general" => Some(0),
-        b"reserved" => Some(1),
+        b"general" => Some(Kind::General),
+        b"reserved" => Some(Kind::Reserved),
         _ => None,
     }
 }
 
-#[tactic(auto, using(crate::proofs::Words::decimal_empty, crate::proofs::Words::decimal_starts, crate::proofs::Words::decimal_turn, crate::proofs::Words::decimal_stops, crate::proofs::Words::decimal_ends))]
+// No sign, which `parse` would take.
+#[tactic(auto, using(crate::proofs::Digits::signed))]
 pub fn decimal(word: &[u8]) -> Option<u64>
     ensures { result ≡ words.decimal_of word.now }
 {
-    if word.is_empty() {
-        return None;
+    match word {
+        [first, ..] if *first != b'+' => str::from_utf8(word).ok()?.parse().ok(),
+        _ => None,
     }
-    let mut n = 0;
-    for &byte in word {
-        n = with_digit(n, byte)?;
-    }
-    Some(n)
-}
-
-#[tactic(auto, using(crate::proofs::Words::not_a_digit, crate::proofs::Words::too_large, crate::proofs::Words::one_more))]
-fn with_digit(n: u64, byte: u8) -> Option<u64>
-    ensures { result ≡ words.with_digit n byte }
-{
-    let b'0'..=b'9' = byte else {
-        return None;
-    };
-    n.checked_mul(10)?.checked_add(u64::from(byte - b'0'))
 }

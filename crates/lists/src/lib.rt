@@ -21,7 +21,7 @@ pub fn unused_slots() -> EarlyList
     EarlyList { starts, ends, used }
 }
 
-// "A fresh record is in early form with every slot unused."
+// "A fresh record is in early form with every slot unused." A line for each list (`FrameAllocator`).
 #[tactic(auto, unfolding(model::specs::Calls::fresh_record, model::specs::Calls::fresh, model::specs::Store::record_of, model::specs::Store::early_in, model::specs::Store::length_in))]
 pub fn fresh() -> FrameAllocator
     ensures { result ≡ fresh_record }

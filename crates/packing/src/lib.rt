@@ -5,10 +5,12 @@
 ghost use Rattle.std.specs.Prelude.{◌≡◌, ◌&&◌, length};
 ghost use Rattle.model.specs.Store.{early_of};
 ghost use Rattle.pairs.specs.Pairs.{pair_slots, IsPairs};
+ghost use Rattle.entries.specs.Whole.{Ruled};
 ghost use Rattle.packing.specs.Open.{lent};
 ghost use Rattle.packing.specs.Packed.{interleaved, packed, header_in, Closable, closed, Apart};
 
-use entries::Header;
+use entries::{FourLists, Header};
+use memory_structs::FrameRange;
 use model::{EarlyList, FrameAllocator};
 
 // The header, and in early form the slots of the four lists, without a test.
@@ -23,7 +25,7 @@ pub fn take_apart(a: &FrameAllocator, slots: &mut [u64; 256]) -> Header
     header
 }
 
-// The form, and each table's length.
+// The form, and each table's length: a line for each list (`FrameAllocator`).
 fn header_of(a: &FrameAllocator) -> Header
     ensures { result ≡ header_in a.now }
 {
@@ -36,7 +38,8 @@ fn header_of(a: &FrameAllocator) -> Header
     }
 }
 
-// The four lists of a record in early form: fields of a `repr(C)` record, so there is a line for each.
+// The four lists of a record in early form, a line for each (`FrameAllocator`). The parts are written as numbers here, in `close`, `rules` and
+// `sort`: document 01's 32 slots and 512 pairs, list after list, are plainer to read so than by the name of each.
 fn pack(a: &FrameAllocator, entries: &mut [u64; 256])
     ensures { entries.new ≡ packed a.now }
 {
@@ -53,21 +56,32 @@ fn pack_list(list: &EarlyList, t: &mut [u64])
     ensures size { length t.new ≡ 64 }
 {
     for i in 0..32 {
-        t[2 * i] = list.starts[i];
-        t[2 * i + 1] = list.ends[i];
+        tables::put(t, i, FrameRange::new(list.starts[i], list.ends[i]));
     }
 }
 
-// The entries of an allocator that stands open: the workspace in sorted form, the slots in early form.
+// The lists of an allocator that stands open, to read.
+pub fn lists_of<'a>(h: Header, slots: &'a [u64], words: &'a [u64]) -> FourLists<'a>
+    requires { Ruled h (lent h.sorted slots.now words.now) }
+    ensures header { result.header ≡ h }
+    ensures entries { result.entries.now ≡ lent h.sorted slots.now words.now }
+{
+    FourLists {
+        header: h,
+        entries: entries_of(h, slots, words),
+    }
+}
+
+// Its entries: the workspace in sorted form, the slots in early form.
 #[tactic(auto, unfolding(crate::specs::Open::lent))]
-pub fn entries_of<'a>(h: Header, slots: &'a [u64], words: &'a [u64]) -> &'a [u64]
+fn entries_of<'a>(h: Header, slots: &'a [u64], words: &'a [u64]) -> &'a [u64]
     ensures { result.now ≡ lent h.sorted slots.now words.now }
 {
     if h.sorted { words } else { slots }
 }
 
-// What the calls left, in the record: the header and, unless the record was in sorted form and still is, the slots. The four lists are
-// fields of a `repr(C)` record, so there is a line for each.
+// What the calls left, in the record: the header and, unless the record was in sorted form and still is, the slots. A line for each
+// list (`FrameAllocator`).
 pub fn close(a: &mut FrameAllocator, h: Header, slots: &[u64])
     requires { Closable (a.old.sorted && h.sorted) slots.now }
     ensures { a.new ≡ closed a.old h slots.now }
@@ -87,7 +101,8 @@ pub fn close(a: &mut FrameAllocator, h: Header, slots: &[u64])
     unpack_list(&mut a.reserved_regions, &slots[192..256]);
 }
 
-// "in sorted form every early slot is unused": where the form was and is sorted, the record's slots are as they are to be.
+// "in sorted form every early slot is unused": where the form was and is sorted, the record's slots are as they are to be. A function, since
+// `&&` in its place would have each of the four lists proved once for each way through it.
 fn stays_sorted(before: bool, after: bool) -> bool
     ensures { result ≡ (before && after) }
 {
@@ -100,10 +115,9 @@ fn unpack_list(list: &mut EarlyList, t: &[u64])
     ensures { list.new ≡ early_of (pair_slots 32 t.now) }
 {
     for i in 0..32 {
-        let start = t[2 * i];
-        let end = t[2 * i + 1];
-        list.starts[i] = start;
-        list.ends[i] = end;
-        list.used[i] = start <= end;
+        let slot = tables::entry(t, i);
+        list.starts[i] = slot.start;
+        list.ends[i] = slot.end;
+        list.used[i] = slot.start <= slot.end;
     }
 }

@@ -6,10 +6,8 @@ use mathlib.Core.List.{List}
 use lib.ListN.{length}
 use borrow.Author.Tests.{lt-ltb, le-ltb}
 use Rattle.model.specs.Lists.{Lists}
-use Rattle.model.specs.Requests.{counted}
-use Rattle.model.specs.Queries.{held_runs, HeldWritten}
 use Rattle.model.specs.Store.{load}
-use Rattle.model.specs.Calls.{Call, held_call, Outcome, answer, short_buffer, unchanged, stored, call, Answers, ListsHeld}
+use Rattle.model.specs.Calls.{Call, held_call, Outcome, answer, short_buffer, unchanged, call, Answers, ListsHeld}
 use Rattle.model.specs.declared.Answer.{Answer}
 use Rattle.model.specs.declared.FrameAllocator.{FrameAllocator}
 use Rattle.model.specs.declared.refusals.Refusal.{Refusal}
@@ -17,24 +15,27 @@ use Rattle.model.specs.declared.refusals.Refusal.TheVariants.{TooFewWords}
 use Rattle.model.specs.Refusals.{number, refused_answer}
 use Rattle.rules.proofs.Refusals.{numbered, answers_number}
 use Rattle.std.specs.Prelude.{Ok, Err}
-use Rattle.rules.specs.Check.{checked, verdict}
-use Rattle.rules.proofs.Numbers.{short_call, gives_refused, accepted_call, passed_number, verdict_ruled}
+use Rattle.rules.specs.Check.{verdict}
+use Rattle.rules.proofs.Held.{answers_going, held_going}
+use Rattle.rules.proofs.Numbers.{short_call, gives_refused, passed_number, verdict_ruled}
+use Rattle.entries.specs.Listed.{lists_of}
+use Rattle.entries.specs.declared.lists.FourLists.{FourLists}
 use Rattle.entries.specs.Whole.{lists_in, Ruled}
 use Rattle.rules.specs.Check.{Opens}
 use Rattle.packing.specs.Open.{lent}
 use Rattle.rules.specs.declared.Opened.{Opened}
 use Rattle.rules.proofs.OpenAs.{OpenAs, apart_as, open_ruled, open_lists}
 use Rattle.query_core.specs.Listed.{Listed}
+use Rattle.queries.specs.Asked.{MayRead}
 
 module _ (c : Call) (a : FrameAllocator) (ws : List ℕ) (e : short_buffer c ≡ false) where
   -- the test refuses it
   pub answers_refused : (r : Refusal) → verdict a ws ≡ Err r → {x : Answer} → x ≡ refused_answer r → Answers c a ws x
   answers_refused r p q = q ∙ (gives_refused c a ws e r p).answers
 
-  -- or lets it go on
-  pub answers_going : checked a ws ≡ 0 → {x : Answer} → x ≡ (answer c (load a ws)).answer → Answers c a ws x
-  unfolding stored
-  answers_going z r = r ∙ sym (ap (λ (o : Outcome). o.answer) (accepted_call c a ws e z))
+  -- or lets it read
+  pub answers_read : (l : FourLists) → MayRead a ws l → {x : Answer} → x ≡ (answer c (lists_of l)).answer → Answers c a ws x
+  answers_read l m r = answers_going a ws (passed_number a ws m.passes) c e (r ∙ ap (λ (y : Lists). (answer c y).answer) m.loads)
 
 module _ (a : FrameAllocator) (ws before : List ℕ) where
   abbrev listing : Call
@@ -59,33 +60,18 @@ module _ (a : FrameAllocator) (ws before : List ℕ) where
     pub held_refused : (r : Refusal) → verdict a ws ≡ Err r → {x : Answer} → x ≡ refused_answer r → ListsHeld a ws before x before
     held_refused r p e = kept r e (answers_refused listing a ws long r p e)
 
-    pub held_going : checked a ws ≡ 0 → {x : Answer} {after : List ℕ} → Listed (load a ws) before x after → ListsHeld a ws before x after
-    unfolding answer held_runs counted
-    held_going z {x} {after} d =
-        let k : Answers listing a ws x = answers_going listing a ws long z d.answers in
-        let number : (call listing a ws).answer.number ≡ 0 = sym (ap (λ (y : Answer). y.number) k) ∙ ap (λ (y : Answer). y.number) d.answers in
-        record {
-          answers = k;
-          buffer = record {
-            accepted = λ n. subst (λ (m : ℕ). HeldWritten (load a ws) m before after) (ap (λ (y : Answer). y.count) k) d.written;
-            otherwise = λ n. absurd (n number);
-          };
-        }
-
--- of the lists by another name
-pub listed_of : {l m : Lists} {before after : List ℕ} {x : Answer} → l ≡ m → Listed l before x after → Listed m before x after
-listed_of {before = before} {after = after} {x = x} e p = subst (λ (y : Lists). Listed y before x after) e p
+    pub held_read : (l : FourLists) → MayRead a ws l → {x : Answer} {after : List ℕ} → Listed (lists_of l) before x after → ListsHeld a ws before x after
+    held_read l m {x} {after} listed =
+        let d : Listed (load a ws) before x after = subst (λ (y : Lists). Listed y before x after) m.loads listed in
+        held_going a ws (passed_number a ws m.passes) before h d.answers d.written
 
 -- a record that the test let go on, opened
 module _ {a : FrameAllocator} {ws : List ℕ} {o : Opened} {es : List ℕ} (p : Opens a ws o es) (z : o.tested ≡ Ok tt) where
-  pub passed : checked a ws ≡ 0
-  passed = passed_number a ws (sym p.tested ∙ z)
-
   stands : OpenAs (load a ws) o.header es ws
   stands = apart_as a ws p.apart (verdict_ruled a ws (sym p.tested ∙ z))
 
   pub may_ask : Ruled o.header (lent o.header.sorted es ws)
   may_ask = open_ruled stands
 
-  pub asked_lists : lists_in o.header (lent o.header.sorted es ws) ≡ load a ws
-  asked_lists = open_lists stands
+  pub may_read : (l : FourLists) → l.header ≡ o.header → l.entries.now ≡ lent o.header.sorted es ws → MayRead a ws l
+  may_read l h e = record { passes = sym p.tested ∙ z; loads = (λ i. lists_in (h i) (e i)) ∙ open_lists stands }

@@ -1,77 +1,67 @@
-// Questions, which change nothing: the kind of a range, the free total of either free list, the held list. The record is taken by value
-// and the workspace lent to be read, so that the answer alone comes back.
+// Questions, which change nothing: the kind of a range, the free total of either free list, the held list. Record and workspace are lent to be
+// read, so that the answer alone comes back. Three calls of a `match` each, and none that takes the question as a closure: each states its own clause.
 #![tactic(auto)]
 
-ghost use Rattle.std.specs.Prelude.{◌≡◌, ◌≤◌, length};
-ghost use Rattle.model.specs.Queries.{kind_of, total};
+ghost use Rattle.std.specs.Prelude.{◌≡◌, Err, IfOk, IfErr};
 ghost use Rattle.model.specs.Calls.{kind_call, total_call, Answers, ListsHeld};
-ghost use Rattle.entries.specs.Whole.{lists_in, Ruled};
-ghost use Rattle.packing.specs.Open.{lent};
-ghost use Rattle.query_core.specs.Listed.{Listed};
+ghost use Rattle.rules.specs.Check.{verdict};
+ghost use Rattle.queries.specs.Asked.{MayRead};
 
-use entries::Header;
+use entries::FourLists;
 use memory_structs::FrameRange;
 use model::{Answer, FrameAllocator, Kind, Refusal};
 
 // "the kind (0 general, 1 reserved: any frame in a reserved region)"
-pub fn kind_of_range(a: FrameAllocator, words: &[u64], range: FrameRange) -> Answer
-    ensures { Answers (kind_call range) a words.now result }
+#[tactic(auto, using(crate::proofs::Asked::answers_read), unfolding(model::specs::Calls::answer, model::specs::Calls::short_buffer))]
+pub fn kind_of_range(a: &FrameAllocator, words: &[u64], range: FrameRange) -> Answer
+    ensures { Answers (kind_call range) a.now words.now result }
 {
     let mut slots = [0u64; 256];
-    let opened = rules::open(&a, words, &mut slots);
-    if let Err(refusal) = opened.tested {
-        return Answer::from(refusal);
+    match lists_of(a, words, &mut slots) {
+        Ok(lists) => query_core::kind(lists, range),
+        Err(refusal) => Answer::from(refusal),
     }
-    kind(opened.header, &slots, words, range)
 }
 
 // "**free total** of either free list"
-pub fn free_total(a: FrameAllocator, words: &[u64], kind: Kind) -> Answer
-    ensures { Answers (total_call kind) a words.now result }
+#[tactic(auto, using(crate::proofs::Asked::answers_read), unfolding(model::specs::Calls::answer, model::specs::Calls::short_buffer))]
+pub fn free_total(a: &FrameAllocator, words: &[u64], kind: Kind) -> Answer
+    ensures { Answers (total_call kind) a.now words.now result }
 {
     let mut slots = [0u64; 256];
-    let opened = rules::open(&a, words, &mut slots);
-    if let Err(refusal) = opened.tested {
-        return Answer::from(refusal);
+    match lists_of(a, words, &mut slots) {
+        Ok(lists) => query_core::free_total(lists, kind),
+        Err(refusal) => Answer::from(refusal),
     }
-    free_frames(opened.header, &slots, words, kind)
 }
 
 // "**held list**, the maximal runs of general frames not free, as pairs of words [..] Its order is left open". A buffer below 2,048 words
 // is 3, before 11.
-pub fn held_list(a: FrameAllocator, words: &[u64], buffer: &mut [u64]) -> Answer
-    ensures { ListsHeld a words.now buffer.old result buffer.new }
+#[tactic(auto, using(crate::proofs::Asked::held_short))]
+pub fn held_list(a: &FrameAllocator, words: &[u64], buffer: &mut [u64]) -> Answer
+    ensures { ListsHeld a.now words.now buffer.old result buffer.new }
 {
     if buffer.len() < 2048 {
         return Answer::from(Refusal::TooFewWords);
     }
     let mut slots = [0u64; 256];
-    let opened = rules::open(&a, words, &mut slots);
-    if let Err(refusal) = opened.tested {
-        return Answer::from(refusal);
+    match lists_of(a, words, &mut slots) {
+        Ok(lists) => query_core::held_list(lists, buffer),
+        Err(refusal) => Answer::from(refusal),
     }
-    list_held(opened.header, &slots, words, buffer)
 }
 
-// The same of an allocator that stands open.
-pub fn kind(h: Header, slots: &[u64], words: &[u64], range: FrameRange) -> Answer
-    requires { Ruled h (lent h.sorted slots.now words.now) }
-    ensures { result ≡ (kind_of range (lists_in h (lent h.sorted slots.now words.now))).answer }
+// "Order: 3, 11", then the record's lists, to read.
+#[tactic(auto, using(crate::proofs::Asked::may_read))]
+fn lists_of<'a>(
+    a: &FrameAllocator,
+    words: &'a [u64],
+    slots: &'a mut [u64; 256],
+) -> Result<FourLists<'a>, Refusal>
+    ensures ok { IfOk result (MayRead a.now words.now) }
+    ensures err { IfErr result (λ refusal. verdict a.now words.now ≡ Err refusal) }
 {
-    query_core::kind(h, packing::entries_of(h, slots, words), range)
-}
-
-pub fn free_frames(h: Header, slots: &[u64], words: &[u64], kind: Kind) -> Answer
-    requires { Ruled h (lent h.sorted slots.now words.now) }
-    ensures { result ≡ (total kind (lists_in h (lent h.sorted slots.now words.now))).answer }
-{
-    query_core::free_total(h, packing::entries_of(h, slots, words), kind)
-}
-
-pub fn list_held(h: Header, slots: &[u64], words: &[u64], buffer: &mut [u64]) -> Answer
-    requires ruled { Ruled h (lent h.sorted slots.now words.now) }
-    requires in_bounds { 2048 ≤ length buffer.old }
-    ensures { Listed (lists_in h (lent h.sorted slots.now words.now)) buffer.old result buffer.new }
-{
-    query_core::held_list(h, packing::entries_of(h, slots, words), buffer)
+    let opened = rules::open(a, words, slots);
+    opened.tested?;
+    Ok(packing::lists_of(opened.header, slots, words))
 }

@@ -5,13 +5,13 @@ ghost use Rattle.std.specs.Prelude.{◌≡◌, true, ◌≤◌, length};
 ghost use Rattle.model.specs.Rules.{tidy};
 ghost use Rattle.model.specs.Queries.{kind_of, total, HeldWritten};
 ghost use Rattle.pairs.specs.Early.{early_slots};
-ghost use Rattle.entries.specs.Whole.{lists_in, Ruled};
+ghost use Rattle.entries.specs.Listed.{lists_of};
 ghost use Rattle.pair_sorting.specs.Ordered.{in_order};
 ghost use Rattle.held.specs.Runs.{two_tables};
 ghost use Rattle.query_core.specs.Kinds.{free_list};
 ghost use Rattle.query_core.specs.Listed.{Listed};
 
-use entries::{Header, WhichList};
+use entries::{FourLists, WhichList};
 use held::write_runs;
 use memory_structs::FrameRange;
 use model::{Answer, Kind, Refusal};
@@ -19,32 +19,30 @@ use pairs::Slots;
 use tables::Table;
 
 // "the kind (0 general, 1 reserved: any frame in a reserved region)" (000, `into_unmapped_frames`). 2 comes first, for an empty range too.
-#[tactic(auto, using(crate::proofs::Asked::kind_above, crate::proofs::Asked::kind_empty, crate::proofs::Asked::kind_reserved, crate::proofs::Asked::kind_general), unfolding(entries::specs::Whole::slots_at))]
-pub fn kind(h: Header, lists: &[u64], range: FrameRange) -> Answer
-    requires { Ruled h lists.now }
-    ensures { result ≡ (kind_of range (lists_in h lists.now)).answer }
+// An `Answer` here and below, and no `Result` of a kind: document 01 answers the kind as a count, and both callers hand the answer on.
+#[tactic(auto, using(crate::proofs::Asked::kind_above, crate::proofs::Asked::kind_empty, crate::proofs::Asked::kind_reserved, crate::proofs::Asked::kind_general), unfolding(entries::specs::Whole::slots_at, model::specs::Words::word_of))]
+pub fn kind(lists: FourLists, range: FrameRange) -> Answer
+    ensures { result ≡ (kind_of range (lists_of lists.entry)).answer }
 {
     if range.is_above_top() {
         return Answer::from(Refusal::OutOfBounds);
     }
     // An empty range has no frame in a region.
     if range.is_empty() {
-        return Answer::counted(0);
+        return Answer::counted(u64::from(Kind::General));
     }
-    if h.meets_in(lists, WhichList::ReservedRegions, range) {
-        return Answer::counted(1);
+    if lists.list(WhichList::ReservedRegions).meets(range) {
+        return Answer::counted(u64::from(Kind::Reserved));
     }
-    Answer::counted(0)
+    Answer::counted(u64::from(Kind::General))
 }
 
 // "**free total** of either free list"
-#[tactic(auto, using(entries::proofs::Whole::lent_fits, entries::proofs::Whole::lent_slots, entries::proofs::Whole::lent_tidy, crate::proofs::Asked::total_is))]
-pub fn free_total(h: Header, lists: &[u64], kind: Kind) -> Answer
-    requires { Ruled h lists.now }
-    ensures { result ≡ (total kind (lists_in h lists.now)).answer }
+#[tactic(auto, using(crate::proofs::Asked::total_is))]
+pub fn free_total(lists: FourLists, kind: Kind) -> Answer
+    ensures { result ≡ (total kind (lists_of lists.entry)).answer }
 {
-    let which = free_list(kind);
-    let frames = h.part(which).sum(&lists[h.words_of(which)]);
+    let frames = lists.list(free_list(kind)).sum();
     Answer::counted(frames)
 }
 
@@ -59,25 +57,24 @@ fn free_list(kind: Kind) -> WhichList
 }
 
 // "**held list**, the maximal runs of general frames not free". The runs go to the beginning of the buffer, and their number is the count.
-pub fn held_list(h: Header, lists: &[u64], buffer: &mut [u64]) -> Answer
-    requires ruled { Ruled h lists.now }
-    requires in_bounds { 2048 ≤ length buffer.old }
-    ensures { Listed (lists_in h lists.now) buffer.old result buffer.new }
+#[tactic(auto, using(crate::proofs::Forms::regions_in_order, crate::proofs::Forms::chunks_in_order))]
+pub fn held_list(lists: FourLists, buffer: &mut [u64]) -> Answer
+    requires { 2048 ≤ length buffer.old }
+    ensures { Listed (lists_of lists.entry) buffer.old result buffer.new }
 {
+    let regions = lists.list(WhichList::GeneralRegions);
+    let chunks = lists.list(WhichList::GeneralFree);
     // In sorted form the tables are in order.
-    if h.sorted {
-        let regions = h.table_in(lists, WhichList::GeneralRegions);
-        let chunks = h.table_in(lists, WhichList::GeneralFree);
-        let count = write_runs(regions, chunks, buffer);
+    if lists.header.sorted {
+        let count = write_runs(regions.table(), chunks.table(), buffer);
         return Answer::counted(count as u64);
     }
-    let regions = h.slots_in(lists, WhichList::GeneralRegions);
-    let chunks = h.slots_in(lists, WhichList::GeneralFree);
-    let runs = write_from_pairs(regions, chunks, buffer);
+    let runs = write_from_pairs(regions.slots(), chunks.slots(), buffer);
     Answer::counted(runs as u64)
 }
 
 // The same walk over early slots, put in order first: 64 words of the stack for each list.
+#[tactic(auto, using(crate::proofs::Forms::two_same, pair_sorting::proofs::Sorting::ordered_slots))]
 fn write_from_pairs(regions: Slots, chunks: Slots, buffer: &mut [u64]) -> usize
     requires buffer_len { 2048 ≤ length buffer.old }
     requires regions_value { tidy true (in_order (early_slots regions)) ≡ true }

@@ -8,8 +8,9 @@ ghost use Rattle.range_answers.specs.Words.{Written, unit_words, number_words, r
 
 use memory_structs::{FrameRange, Halves, OutOfBounds, SplitFrames};
 
-// Document 01's number for what is out of bounds: the one refusal that the calls on ranges have. `model` has every number.
-const OUT_OF_BOUNDS: u64 = 2;
+// Document 01's number for what is out of bounds: the one refusal that the calls on ranges have. `model` has every number, and this
+// crate stands below it.
+pub const OUT_OF_BOUNDS: u64 = 2;
 
 // A value that an answer may show; with the word before it that says whether there is one, it takes N words.
 pub trait Shows<const N: usize> {
@@ -20,6 +21,7 @@ pub trait Shows<const N: usize> {
 
     const NONE: Self;
 
+    // The flag is the first word that C reads, so it is written here with the others, and no `Option` is taken apart.
     fn put(self, found: bool, out: &mut [u64; N])
         ensures { out.new ≡ (if found then 1 else 0) ∷ words self };
 }

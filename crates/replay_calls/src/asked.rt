@@ -1,57 +1,53 @@
-// The calls of the allocator: each writes its answer, and hands back the record after it.
+// The calls of the allocator: each writes its answer, and leaves the record as the call does.
 use crate::reading::Call;
-use crate::shown;
+use crate::shown::{self, Counted, Shown};
 use model::{Answer, Called, FrameAllocator};
 use std::io::{self, Write};
 
 pub fn call(
     out: &mut impl Write,
-    a: FrameAllocator,
+    a: &mut FrameAllocator,
     words: &mut [u64],
     call: Call<'_>,
-) -> io::Result<FrameAllocator> {
+) -> io::Result<()> {
     match call {
-        Call::Boot(areas) => told(out, boot::init(a, areas, words)),
-        Call::BootBytes(areas) => told(out, boot::init_from_bytes(a, areas, words)),
-        Call::Sort => told(out, sort::convert_frame_allocator_to_heap_based(a, words)),
-        Call::Allocate(request) => told(out, calls::allocate(a, words, request)),
-        Call::Return(range) => told(out, calls::return_frames(a, words, range)),
-        Call::KindOf(range) => counted(out, a, queries::kind_of_range(a, words, range)),
-        Call::Total(kind) => counted(out, a, queries::free_total(a, words, kind)),
-        Call::Held => held(out, a, words),
-        Call::HeldShort => held_short(out, a, words),
+        Call::Boot(areas) => told(out, boot::init(*a, areas, words), a),
+        Call::BootBytes(areas) => told(out, boot::init_from_bytes(*a, areas, words), a),
+        Call::Sort => told(
+            out,
+            sort::convert_frame_allocator_to_heap_based(*a, words),
+            a,
+        ),
+        Call::Allocate(request) => told(out, calls::allocate(*a, words, request), a),
+        Call::Return(range) => told(out, calls::return_frames(*a, words, range), a),
+        Call::KindOf(range) => counted(out, queries::kind_of_range(a, words, range)),
+        Call::Total(kind) => counted(out, queries::free_total(a, words, kind)),
+        Call::Held => held(out, a, words, &mut [0; 2048]),
+        // In a buffer that is a word too short.
+        Call::HeldShort => held(out, a, words, &mut [0; 2047]),
     }
 }
 
-// Writes the answer.
-fn told(out: &mut impl Write, called: Called) -> io::Result<FrameAllocator> {
-    shown::answer(out, called.answer)?;
-    writeln!(out)?;
-    Ok(called.allocator)
+// Writes the answer, and goes on with the record that the call hands back.
+fn told(out: &mut impl Write, called: Called, a: &mut FrameAllocator) -> io::Result<()> {
+    *a = called.allocator;
+    writeln!(out, "{}", Shown(called.answer))
 }
 
 // Writes a question's answer. A question leaves the record as it is.
-fn counted(out: &mut impl Write, a: FrameAllocator, answer: Answer) -> io::Result<FrameAllocator> {
-    shown::count(out, answer)?;
-    writeln!(out)?;
-    Ok(a)
+fn counted(out: &mut impl Write, answer: Answer) -> io::Result<()> {
+    writeln!(out, "{}", Counted(answer))
 }
 
-fn held(out: &mut impl Write, a: FrameAllocator, words: &[u64]) -> io::Result<FrameAllocator> {
-    let mut buffer = [0; 2048];
-    shown::runs(out, queries::held_list(a, words, &mut buffer), &buffer)?;
-    writeln!(out)?;
-    Ok(a)
-}
-
-// In a buffer that is a word too short.
-fn held_short(
+fn held(
     out: &mut impl Write,
-    a: FrameAllocator,
+    a: &FrameAllocator,
     words: &[u64],
-) -> io::Result<FrameAllocator> {
-    let mut buffer = [0; 2047];
-    shown::answer(out, queries::held_list(a, words, &mut buffer))?;
-    writeln!(out)?;
-    Ok(a)
+    buffer: &mut [u64],
+) -> io::Result<()> {
+    let answer = queries::held_list(a, words, buffer);
+    write!(out, "{}", Counted(answer))?;
+    // So many runs of the buffer.
+    shown::pairs(out, buffer, answer.count as usize)?;
+    writeln!(out)
 }

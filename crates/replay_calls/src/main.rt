@@ -45,7 +45,7 @@ fn main(rt: HostRuntime) -> io::Result<()> {
     let mut a = lists::fresh();
     for line in BufReader::new(alloc, rt.reader())?.split(alloc, b'\n') {
         match reading::read_line(&line?, &mut numbers) {
-            Some(line) => a = lines_called::answer(&mut out, a, &mut words, line)?,
+            Some(line) => lines_called::answer(&mut out, &mut a, &mut words, line)?,
             None => writeln!(out, "(bad)")?,
         }
     }

@@ -1,5 +1,4 @@
 // What a line asks for: see `main`.
-use lines::Layout;
 use memory_structs::FrameRange;
 use model::Kind;
 use requests::Request;
@@ -73,26 +72,20 @@ fn read_call<'a>(call: &[u8], numbers: &'a mut [u64]) -> Option<Call<'a>> {
 // A name, and the numbers after it.
 fn with_numbers<'a>(call: &[u8], numbers: &'a mut [u64]) -> Option<Call<'a>> {
     let name_end = call.iter().position(|b| *b == b' ').unwrap_or(call.len());
-    match &call[..name_end] {
-        b"boot" => Some(Call::Boot(areas(call, name_end, numbers)?)),
-        b"boot_bytes" => Some(Call::BootBytes(areas(call, name_end, numbers)?)),
-        name => {
-            let read = lines::read_words(call, name_end, Layout::Numbers, numbers);
-            if !read.valid {
-                return None;
-            }
-            of_numbers(name, &numbers[..read.len])
+    let (name, words) = call.split_at(name_end);
+    match name {
+        b"boot" => Some(Call::Boot(areas(words, numbers)?)),
+        b"boot_bytes" => Some(Call::BootBytes(areas(words, numbers)?)),
+        _ => {
+            let len = lines::read_numbers(words, numbers).ok()?;
+            of_numbers(name, &numbers[..len])
         }
     }
 }
 
-fn areas<'a>(call: &[u8], name_end: usize, numbers: &'a mut [u64]) -> Option<&'a [u64]> {
-    let read = lines::read_words(call, name_end, Layout::Areas, numbers);
-    if read.are_areas() {
-        Some(&numbers[..read.len])
-    } else {
-        None
-    }
+fn areas<'a>(words: &[u8], numbers: &'a mut [u64]) -> Option<&'a [u64]> {
+    let len = lines::read_areas(words, numbers).ok()?;
+    Some(&numbers[..len])
 }
 
 fn of_numbers<'a>(name: &[u8], numbers: &[u64]) -> Option<Call<'a>> {

@@ -1,49 +1,52 @@
 // A record's lists and an answer as words of a line.
-ghost use Rattle.std.specs.Prelude.{◌≤◌, length};
-
 use memory_structs::FrameRange;
 use model::{Answer, EarlyList, FrameAllocator};
+use std::fmt::{self, Display, Formatter};
 use std::io::{self, Write};
 
-// `refused` and the number, `granted` and the range, or `done`. What else the answer holds follows: 15's frame and count, and any value
-// that document 01 does not give.
-pub fn answer(out: &mut impl Write, answer: Answer) -> io::Result<()> {
-    // Where nothing is granted, the range is the constant [1,0] and no other empty one.
-    let granted = answer.range != FrameRange::EMPTY;
-    match answer.number {
-        0 if granted => write!(out, "granted")?,
-        0 => write!(out, "done")?,
-        number if granted => write!(out, "refused {number} granted")?,
-        number => write!(out, "refused {number}")?,
-    }
-    if granted {
-        entry(out, answer.range.start, answer.range.end)?;
-    }
-    if answer.frame != 0 || answer.count != 0 {
-        entry(out, answer.frame, answer.count)?;
-    }
-    Ok(())
-}
+// An answer: `refused` and the number, `granted` and the range, or `done`. What else it holds follows: 15's frame and count, and any
+// value that document 01 does not give.
+#[derive(Clone, Copy)]
+pub struct Shown(pub Answer);
 
-// `counted` and the count where a question is accepted, else as any answer.
-pub fn count(out: &mut impl Write, answer: Answer) -> io::Result<()> {
-    if answer.number == 0 && answer.frame == 0 {
-        write!(out, "counted {}", answer.count)
-    } else {
-        self::answer(out, answer)
+impl Display for Shown {
+    fn fmt<W: fmt::Write>(&self, f: &mut Formatter<W>) -> fmt::Result {
+        let answer = self.0;
+        // Where nothing is granted, the range is the constant [1,0] and no other empty one.
+        let granted = answer.range != FrameRange::EMPTY;
+        match answer.number {
+            0 if granted => write!(f, "granted")?,
+            0 => write!(f, "done")?,
+            number if granted => write!(f, "refused {number} granted")?,
+            number => write!(f, "refused {number}")?,
+        }
+        if granted {
+            write!(f, " {} {}", answer.range.start, answer.range.end)?;
+        }
+        if answer.frame != 0 || answer.count != 0 {
+            write!(f, " {} {}", answer.frame, answer.count)?;
+        }
+        Ok(())
     }
 }
 
-// A held list: the count, and so many runs of the buffer.
-pub fn runs(out: &mut impl Write, answer: Answer, buffer: &[u64]) -> io::Result<()> {
-    count(out, answer)?;
-    pairs(out, buffer, answer.count as usize)
+// A question's answer: `counted` and the count where it is accepted, else as any answer.
+#[derive(Clone, Copy)]
+pub struct Counted(pub Answer);
+
+impl Display for Counted {
+    fn fmt<W: fmt::Write>(&self, f: &mut Formatter<W>) -> fmt::Result {
+        let answer = self.0;
+        if answer.number == 0 && answer.frame == 0 {
+            write!(f, "counted {}", answer.count)
+        } else {
+            write!(f, "{}", Shown(answer))
+        }
+    }
 }
 
 // The form and the four lists by name, each in stored order as starts and ends.
-pub fn record(out: &mut impl Write, a: &FrameAllocator, words: &[u64]) -> io::Result<()>
-    requires { 4096 ≤ length words.now }
-{
+pub fn record(out: &mut impl Write, a: &FrameAllocator, words: &[u64; 4096]) -> io::Result<()> {
     if a.sorted {
         sorted(out, a, words)
     } else {
@@ -51,9 +54,7 @@ pub fn record(out: &mut impl Write, a: &FrameAllocator, words: &[u64]) -> io::Re
     }
 }
 
-fn sorted(out: &mut impl Write, a: &FrameAllocator, words: &[u64]) -> io::Result<()>
-    requires { 4096 ≤ length words.now }
-{
+fn sorted(out: &mut impl Write, a: &FrameAllocator, words: &[u64; 4096]) -> io::Result<()> {
     write!(out, "sorted general_free")?;
     pairs(out, &words[..1024], a.general_free_len)?;
     write!(out, " reserved_free")?;
@@ -76,7 +77,7 @@ fn early(out: &mut impl Write, a: &FrameAllocator) -> io::Result<()> {
 }
 
 // Of any record, a broken one too, so that no `Table` can be made of it.
-fn pairs(out: &mut impl Write, t: &[u64], len: usize) -> io::Result<()> {
+pub fn pairs(out: &mut impl Write, t: &[u64], len: usize) -> io::Result<()> {
     for pair in t.chunks_exact(2).take(len) {
         entry(out, pair[0], pair[1])?;
     }

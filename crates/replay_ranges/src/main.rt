@@ -5,7 +5,7 @@
 ghost use Rattle.std.specs.Prelude.{◌*◌, ◌^◌, ◌<◌};
 
 use memory_structs::{FrameRange, OutOfBounds};
-use range_answers::Shows;
+use range_answers::{OUT_OF_BOUNDS, Shows};
 use std::alloc::Global;
 use std::io::{self, BufRead, BufReader, BufWriter, Write};
 
@@ -23,19 +23,14 @@ fn answer_line(alloc: Global, out: &mut impl Write, line: &[u8]) -> io::Result<(
         return bad(out);
     };
     let (name, rest) = text.split_once(' ').unwrap_or((text, ""));
-    let numbers: Option<Vec<u64>> = rest.split(' ').map(number).collect(alloc)?;
+    let numbers: Option<Vec<u64>> = rest
+        .split(' ')
+        .map(|word| lines::decimal(word.as_bytes()))
+        .collect(alloc)?;
     match numbers {
         Some(numbers) => answer(out, name, &numbers),
         None => bad(out),
     }
-}
-
-// A word in decimal, below 2^64. `parse` would take a sign as well.
-fn number(word: &str) -> Option<u64> {
-    if word.starts_with('+') {
-        return None;
-    }
-    word.parse().ok()
 }
 
 // Makes the call of this name where it takes so many numbers, and prints its answer.
@@ -81,9 +76,7 @@ fn answer_two(
     match name {
         "contains_range" => print(
             out,
-            range
-                .contains_range(other)
-                .map(|found| if found { Some(()) } else { None }),
+            range.contains_range(other).map(|found| found.then_some(())),
         ),
         "overlap" => print(out, range.overlap(other)),
         "merge" => print(out, range.merge(other)),
@@ -100,7 +93,7 @@ fn print<T: Shows<N>, const N: usize>(
     requires fits { N * 8 < 2 ^ 63 }
 {
     let (found, value) = match answer {
-        Err(OutOfBounds) => return writeln!(out, "refused 2"),
+        Err(OutOfBounds) => return writeln!(out, "refused {OUT_OF_BOUNDS}"),
         Ok(None) => (false, T::NONE),
         Ok(Some(value)) => (true, value),
     };

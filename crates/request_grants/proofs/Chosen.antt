@@ -1,4 +1,5 @@
 -- What a search finds may be granted from.
+use Rattle.model.proofs.Steps.{large_hit}
 use Prim.Native.Nat.{ℕ, suc, ◌+◌, ◌-◌, ◌≤◌, ◌<◌}
 use native.Mathlib.Omega.{arith}
 use mathlib.Core.Path.{◌≡◌, refl, sym, ap, subst}
@@ -93,11 +94,6 @@ unfolding Choice
 search_chooses sorted s c asked h e = subst (Choice sorted asked s) e (find_choice asked s h sorted)
 
 -- a chunk that is large enough for a count
-large_hit : (sorted : Bool) (n : ℕ) (s : List Slot) → Hit (λ c. leb n (size c)) s (large_enough sorted n s)
-unfolding large_enough
-large_hit true n s = last_hit (λ c. leb n (size c)) s
-large_hit false n s = first_hit (λ c. leb n (size c)) s
-
 module _ (sorted : Bool) (s : List Slot) (n i : ℕ) (some : 0 < n) (e : large_enough sorted n s ≡ Some i) where
   hit : (n ≤ size (range_at s i)) × Used s i
   unfolding Hit

@@ -1,20 +1,32 @@
 -- A grant, case by case: what is put back, and that in a spaced list it stands where the chosen chunks stood.
 use Prim.Native.Nat.{ℕ, ◌+◌, ◌-◌, ◌≤◌, ◌<◌}
 use native.Mathlib.Omega.{arith}
-use mathlib.Core.Path.{◌≡◌, ap, subst, ◌∙◌}
-use mathlib.Core.Bool.{Bool, true}
+use mathlib.Core.Path.{◌≡◌, refl, ap, subst, ◌∙◌}
+use mathlib.Core.Bool.{Bool, true, false}
+use lib.Dec.{ltb}
+use Rattle.std.specs.Prelude.{if◌then◌else◌}
 use mathlib.Core.List.{List, [], ◌∷◌, ◌++◌}
 use lib.ListN.{take, drop}
-use borrow.Author.Tests.{lt-ltb, le-ltb}
-use Rattle.memory_structs.specs.Range.{range}
+use borrow.Author.Tests.{lt-ltb, le-ltb, ltb-true}
+use Rattle.memory_structs.specs.Range.{range, empty, is_empty, frames_below, frames_above}
 use Rattle.memory_structs.specs.declared.range.FrameRange.{FrameRange}
 use Rattle.model.specs.Lists.{Slot, used, range_at, insert, insert_sorted, remove}
+use Rattle.model.specs.Store.{slot_words}
 use Rattle.model.specs.Requests.{grant_from, put_before, put_after}
 use Rattle.model.proofs.Forms.{remove_run}
 use Rattle.tables.proofs.Spaced.{Spaced}
 use Rattle.request_search.specs.declared.Chosen.{Chosen}
-use Rattle.request_grants.specs.Grants.{Chooses, grant_of, instead}
+use Rattle.request_grants.specs.Grants.{Chooses, grant_of, put_left, instead}
 use Rattle.request_grants.proofs.Places.{Under, insert_past, insert_front, slots_before, slots_after}
+
+-- the parts of a range on either side, where there are any
+pub part_before : (r : FrameRange) (f : ℕ) → r.start < f → frames_below r f ≡ range r.start (f - 1)
+unfolding frames_below
+part_before r f h = rw (lt-ltb r.start f h)
+
+pub part_after : (r : FrameRange) (f : ℕ) → f < r.end → frames_above r f ≡ range (f + 1) r.end
+unfolding frames_above
+part_after r f h = rw (lt-ltb f r.end h)
 
 -- what is put back before, and after
 module _ (b : Bool) (c r : FrameRange) (s : List Slot) where
@@ -33,6 +45,32 @@ module _ (b : Bool) (c r : FrameRange) (s : List Slot) where
   pub none_after : c.end ≤ r.end → put_after b c r s ≡ s
   unfolding put_after
   none_after h = rw (le-ltb r.end c.end h)
+
+-- in early form
+put_below : (c r : FrameRange) (s : List Slot) → put_left (frames_below c r.start) s ≡ put_before false c r s
+unfolding put_left put_before frames_below
+put_below c r s = go (ltb c.start r.start) refl
+  where
+    go : (b : Bool) → ltb c.start r.start ≡ b → (if is_empty (if b then range c.start (r.start - 1) else empty) then s else insert false (if b then range c.start (r.start - 1) else empty) s)
+        ≡ (if b then insert false (range c.start (r.start - 1)) s else s)
+    go true e = rw (le-ltb (r.start - 1) c.start (omega (arith, ltb-true c.start r.start e)))
+    go false e = refl
+
+put_above : (c r : FrameRange) (s : List Slot) → put_left (frames_above c r.end) s ≡ put_after false c r s
+unfolding put_left put_after frames_above
+put_above c r s = go (ltb r.end c.end) refl
+  where
+    go : (b : Bool) → ltb r.end c.end ≡ b → (if is_empty (if b then range (r.end + 1) c.end else empty) then s else insert false (if b then range (r.end + 1) c.end else empty) s)
+        ≡ (if b then insert false (range (r.end + 1) c.end) s else s)
+    go true e = rw (le-ltb c.end (r.end + 1) (omega (arith, ltb-true r.end c.end e)))
+    go false e = refl
+
+module _ (c r : FrameRange) (s : List Slot) {x : FrameRange} {words : List ℕ} where
+  pub written_below : x ≡ frames_below c r.start → words ≡ slot_words (put_left x s) → words ≡ slot_words (put_before false c r s)
+  written_below e w = w ∙ ap (λ (y : FrameRange). slot_words (put_left y s)) e ∙ ap slot_words (put_below c r s)
+
+  pub written_above : x ≡ frames_above c r.end → words ≡ slot_words (put_left x s) → words ≡ slot_words (put_after false c r s)
+  written_above e w = w ∙ ap (λ (y : FrameRange). slot_words (put_left y s)) e ∙ ap slot_words (put_above c r s)
 
 module _ (s : List Slot) (c : Chosen) (asked : FrameRange) (spaced : Spaced 0 s) (chosen : Chooses true s c asked) where
   below : (n : ℕ) → c.range.start ≤ n → Under n (take c.first s)

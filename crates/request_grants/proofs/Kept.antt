@@ -6,7 +6,7 @@ use Prim.Native.Nat.{ℕ, zero, suc, ◌≤◌}
 use native.Mathlib.Omega.{arith}
 use lib.ListN.{length}
 use Rattle.memory_structs.specs.declared.range.FrameRange.{FrameRange}
-use Rattle.model.specs.Lists.{Slot, entries, insert, remove, remove_one, replace_at}
+use Rattle.model.specs.Lists.{Slot, entries, insert, remove, remove_one}
 use Rattle.model.specs.Rules.{slotted}
 use Rattle.model.proofs.Cover.{early_length, remove_length}
 use Rattle.model.proofs.Lawful.{Slots, sorted_rising, remove_rising}
@@ -63,10 +63,3 @@ inserted_slots false r s a = early_length r s ∙ a
 
 pub inserted_slotted : (b : Bool) (r : FrameRange) (s : List Slot) → slotted b s ≡ true → slotted b (insert b r s) ≡ true
 inserted_slotted b r s e = is_slotted b (insert b r s) (inserted_slots b r s (slotted_is b s e))
-
--- an entry rewritten where it stands
-pub replaced_used : (i : ℕ) (r : FrameRange) {s : List Slot} → AllUsed s → AllUsed (replace_at i r s)
-unfolding replace_at
-replaced_used i r none = none
-replaced_used zero r (one u) = one u
-replaced_used (suc i) r (one u) = one (replaced_used i r u)

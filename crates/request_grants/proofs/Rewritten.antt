@@ -15,8 +15,8 @@ use Rattle.tables.specs.Words.{IsTable}
 use Rattle.tables.proofs.Stores.{is_table}
 use Rattle.tables.proofs.Spaced.{tidy_spaced}
 use Rattle.tables.proofs.Touching.{tidy_rising}
-use Rattle.entries.proofs.Forms.{length_removed, length_replaced}
-use Rattle.request_grants.proofs.Kept.{removed_slotted, inserted_slotted, replaced_used}
+use Rattle.entries.proofs.Forms.{length_removed, length_replaced, replaced_used}
+use Rattle.request_grants.proofs.Kept.{removed_slotted, inserted_slotted}
 use Rattle.request_search.specs.declared.Chosen.{Chosen}
 use Rattle.request_grants.specs.Grants.{Chooses, instead, TableOf}
 use Rattle.request_grants.proofs.Places.{length_instead, replaced_then, replaced_removed, replaced_one}
@@ -41,6 +41,10 @@ all_removed len i k ws after h w = record {
   counted = omega (arith, length_removed i k (table_slots len ws) (omega (arith, table_length len ws)), table_length len ws);
   written = w;
 }
+
+-- the pair at i, by an equal name
+pub pair_as : (len i : ℕ) {x y : FrameRange} (ws : List ℕ) {after : List ℕ} → x ≡ y → after ≡ table_words (replace_at i x (table_slots len ws)) → after ≡ table_words (replace_at i y (table_slots len ws))
+pair_as len i ws e w = w ∙ ap (λ (r : FrameRange). table_words (replace_at i r (table_slots len ws))) e
 
 -- the pair at i is rewritten
 module _ (len i : ℕ) (r : FrameRange) (ws after : List ℕ) (t : IsTable len ws) (w : after ≡ table_words (replace_at i r (table_slots len ws))) where

@@ -1,7 +1,9 @@
 -- A grant from chosen chunks. The words in quotes are document 01's.
 use Rattle.std.specs.Prelude.{ℕ, ◌+◌, ◌-◌, ◌≤◌, ◌<◌, ◌≡◌, Bool, true, false, List, Option, Some, None, ◌++◌, length, take, drop, ltb}
+use Rattle.std.specs.Prelude.{if◌then◌else◌}
+use Rattle.memory_structs.specs.Range.{is_empty}
 use Rattle.memory_structs.specs.declared.range.FrameRange.{FrameRange}
-use Rattle.model.specs.Lists.{Slot, range_at, bound}
+use Rattle.model.specs.Lists.{Slot, range_at, bound, insert}
 use Rattle.model.specs.Requests.{grant_from, entries_after}
 use Rattle.model.specs.Store.{table_words}
 use Rattle.entries.specs.Part.{Stored}
@@ -34,6 +36,11 @@ overfull sorted c asked s = ltb (bound sorted) (entries_left sorted c asked s)
 abbrev pub TakesOut : Bool → Chosen → FrameRange → List Slot → List ℕ → Option ℕ → List ℕ → Type 0
 TakesOut sorted c asked s before None after = (overfull sorted c asked s ≡ true) × (after ≡ before)
 TakesOut sorted c asked s before (Some n) after = (overfull sorted c asked s ≡ false) × Stored sorted (grant_of sorted c asked s) n after
+
+-- in early form: what is left over on one side of the grant goes in, where it has a frame (`written_below`, `written_above`, proofs/Grant: as the model's
+-- `put_before` and `put_after`)
+unfoldable pub put_left : FrameRange → List Slot → List Slot
+put_left left s = if is_empty left then s else insert false left s
 
 -- new slots in the place of the k slots from i on
 unfoldable pub instead : ℕ → ℕ → List Slot → List Slot → List Slot

@@ -5,15 +5,15 @@
 ghost use Rattle.std.specs.Prelude.{◌≡◌, true, false, [], ◌∷◌, ◌+◌, ◌-◌, ◌≤◌, ◌<◌};
 ghost use Rattle.memory_structs.specs.Range.{range};
 ghost use Rattle.model.specs.Lists.{bound, used};
-ghost use Rattle.model.specs.Requests.{put_before, put_after};
 ghost use Rattle.model.specs.Rules.{tidy};
 ghost use Rattle.model.specs.Store.{table_slots, slot_words};
 ghost use Rattle.tables.specs.Words.{IsTable};
 ghost use Rattle.pairs.specs.Pairs.{pair_slots, IsPairs};
-ghost use Rattle.entries.specs.Part.{part_slots, Holds, IsTidy, Stored};
-ghost use Rattle.request_grants.specs.Grants.{Chooses, grant_of, entries_left, TakesOut, instead, TableOf};
+ghost use Rattle.entries.specs.Part.{part_slots, IsTidy, Stored};
+ghost use Rattle.entries.specs.Listed.{list_slots};
+ghost use Rattle.request_grants.specs.Grants.{Chooses, grant_of, entries_left, TakesOut, put_left, instead, TableOf};
 
-use entries::Part;
+use entries::{List, Part};
 use memory_structs::FrameRange;
 use request_search::Chosen;
 
@@ -25,7 +25,7 @@ pub fn take(part: Part, t: &mut [u64], chosen: Chosen, asked: FrameRange) -> Opt
     requires chooses { Chooses part.sorted (part_slots part t.old) chosen asked }
     ensures { TakesOut part.sorted chosen asked (part_slots part t.old) t.old result t.new }
 {
-    if part.bound() < entries_after(part, t, chosen, asked) {
+    if part.bound() < entries_after(List { part, words: t }, chosen, asked) {
         return None;
     }
     Some(allocate_from_chosen_chunk(part, t, chosen, asked))
@@ -33,12 +33,11 @@ pub fn take(part: Part, t: &mut [u64], chosen: Chosen, asked: FrameRange) -> Opt
 
 // How many entries the list has after the grant.
 #[tactic(auto, using(entries::proofs::Forms::part_storable, crate::proofs::Entries::leftover, crate::proofs::Entries::one_leftover, crate::proofs::Entries::no_leftover, crate::proofs::Entries::leftover_bound, crate::proofs::Entries::taken_out, crate::proofs::Entries::left_is, crate::proofs::Kept::few_entries))]
-fn entries_after(part: Part, t: &[u64], chosen: Chosen, asked: FrameRange) -> usize
-    requires part { Holds part t.now }
-    requires chooses { Chooses part.sorted (part_slots part t.now) chosen asked }
-    ensures { result ≡ entries_left part.sorted chosen asked (part_slots part t.now) }
+fn entries_after(list: List, chosen: Chosen, asked: FrameRange) -> usize
+    requires { Chooses list.part.sorted (list_slots list) chosen asked }
+    ensures { result ≡ entries_left list.entry.part.sorted chosen asked (list_slots list.entry) }
 {
-    let mut n = part.count(t) - chosen.many;
+    let mut n = list.count() - chosen.many;
     if chosen.range.start != asked.start {
         n += 1;
     }
@@ -75,48 +74,24 @@ fn allocate_from_slots(t: &mut [u64], chosen: Chosen, asked: FrameRange)
     ensures { t.new ≡ slot_words (grant_of false chosen asked (pair_slots 32 t.old)) }
 {
     pairs::empty_slot(t, chosen.first);
-    put_before(t, chosen, asked);
-    put_after(t, chosen, asked);
+    put_left(t, chosen.range.below(asked.start));
+    put_left(t, chosen.range.above(asked.end));
 }
 
-// The part before goes in, where there is one.
-#[tactic(auto, using(crate::proofs::Grant::some_before, crate::proofs::Grant::none_before), unfolding(model::specs::Lists::insert))]
-fn put_before(t: &mut [u64], chosen: Chosen, asked: FrameRange)
+// What is left over on one side goes in, where it has a frame.
+#[tactic(auto, unfolding(crate::specs::Grants::put_left, model::specs::Lists::insert))]
+fn put_left(t: &mut [u64], left: FrameRange)
     requires { IsPairs t.old }
-    ensures { t.new ≡ slot_words (put_before false chosen.range asked (pair_slots 32 t.old)) }
+    ensures { t.new ≡ slot_words (put_left left (pair_slots 32 t.old)) }
 {
-    if chosen.range.start < asked.start {
-        let last = asked.start - 1;
-        pairs::insert(
-            t,
-            FrameRange {
-                start: chosen.range.start,
-                end: last,
-            },
-        );
+    if !left.is_empty() {
+        pairs::insert(t, left);
     }
 }
 
-// The same of the part after.
-#[tactic(auto, using(crate::proofs::Grant::some_after, crate::proofs::Grant::none_after), unfolding(model::specs::Lists::insert))]
-fn put_after(t: &mut [u64], chosen: Chosen, asked: FrameRange)
-    requires { IsPairs t.old }
-    ensures { t.new ≡ slot_words (put_after false chosen.range asked (pair_slots 32 t.old)) }
-{
-    if asked.end < chosen.range.end {
-        let first = asked.end + 1;
-        pairs::insert(
-            t,
-            FrameRange {
-                start: first,
-                end: chosen.range.end,
-            },
-        );
-    }
-}
-
-// The leftovers take the place of the chosen pairs, and the pairs above move once at most. The answer is the length after that.
-#[tactic(auto, using(model::proofs::Stored::table_length, tables::proofs::Spaced::tidy_spaced, crate::proofs::Entries::room_for_two, crate::proofs::Grant::grant_none, crate::proofs::Grant::grant_before, crate::proofs::Grant::grant_after, crate::proofs::Grant::grant_both, crate::proofs::Rewritten::all_removed, crate::proofs::Rewritten::left_instead))]
+// The leftovers take the place of the chosen pairs, and the pairs above move once at most. The answer is the length after that. Words and length
+// are two parameters here and below, as in `tables`.
+#[tactic(auto, using(model::proofs::Stored::table_length, tables::proofs::Spaced::tidy_spaced, crate::proofs::Entries::room_for_two, crate::proofs::Grant::grant_none, crate::proofs::Grant::grant_before, crate::proofs::Grant::grant_after, crate::proofs::Grant::grant_both, crate::proofs::Rewritten::all_removed, crate::proofs::Rewritten::left_instead), unfolding(memory_structs::specs::Range::frames_below, memory_structs::specs::Range::frames_above))]
 pub fn allocate_from_table(t: &mut [u64], len: usize, chosen: Chosen, asked: FrameRange) -> usize
     requires table { IsTable len t.old }
     requires t_value { tidy true (table_slots len t.old) ≡ true }
@@ -129,19 +104,11 @@ pub fn allocate_from_table(t: &mut [u64], len: usize, chosen: Chosen, asked: Fra
             tables::remove_at(t, len, chosen.first, chosen.many);
             return len - chosen.many;
         }
-        let above = asked.end + 1;
-        let left = FrameRange {
-            start: above,
-            end: chosen.range.end,
-        };
+        let left = chosen.range.above(asked.end);
         return leave_one(t, len, chosen.first, chosen.many, left);
     }
     if chosen.range.end == asked.end {
-        let below = asked.start - 1;
-        let left = FrameRange {
-            start: chosen.range.start,
-            end: below,
-        };
+        let left = chosen.range.below(asked.start);
         return leave_one(t, len, chosen.first, chosen.many, left);
     }
     leave_two(t, len, chosen, asked)
@@ -169,16 +136,8 @@ fn leave_two(t: &mut [u64], len: usize, chosen: Chosen, asked: FrameRange) -> us
     requires start_lt_start { (chosen.range.start < asked.start) × (asked.end < chosen.range.end) × (len + 2 ≤ chosen.many + 512) }
     ensures { TableOf (instead chosen.first chosen.many (used (range chosen.range.start (asked.start - 1)) ∷ used (range (asked.end + 1) chosen.range.end) ∷ []) (table_slots len t.old)) result t.new }
 {
-    let last = asked.start - 1;
-    let before = FrameRange {
-        start: chosen.range.start,
-        end: last,
-    };
-    let first = asked.end + 1;
-    let after = FrameRange {
-        start: first,
-        end: chosen.range.end,
-    };
+    let before = chosen.range.below(asked.start);
+    let after = chosen.range.above(asked.end);
     tables::replace_at(t, len, chosen.first, before);
     if chosen.many == 1 {
         tables::insert(t, len, after);

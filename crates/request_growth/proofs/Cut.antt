@@ -26,7 +26,8 @@ use Rattle.request_search.specs.declared.Chosen.{Chosen}
 use Rattle.request_search.proofs.Grown.{TailGrown, tail_grown}
 use Rattle.request_grants.specs.Grants.{Chooses, grant_of, entries_left}
 use Rattle.request_grants.proofs.Entries.{all_used}
-use Rattle.request_taking.specs.Takes.{one_chunk, granted_with, AllStored}
+use Rattle.request_search.specs.Searches.{one_chunk}
+use Rattle.request_taking.specs.Takes.{granted_with, AllStored}
 use Rattle.request_taking.proofs.Taken.{does_grant}
 use Rattle.request_growth.proofs.Growing.{Open, tidy_chunks, room_regions_holds}
 use Rattle.request_growth.proofs.Tail.{LastChunk, missing_sorted, tail_chooses, tail_left, tail_growth, cut_lawful}

@@ -7,12 +7,13 @@ ghost use Rattle.memory_structs.specs.Range.{range};
 ghost use Rattle.model.specs.Lists as model;
 ghost use Rattle.model.specs.Requests.{find, not_found, missing, grow, no_room_to_grow};
 ghost use Rattle.entries.specs.declared.header.WhichList.TheVariants.{ReservedFree, ReservedRegions};
+ghost use Rattle.entries.specs.Listed.{lists_of};
 ghost use Rattle.entries.specs.Whole.{lists_in, slots_at, with_slots, answered_by, Ruled, Does};
 ghost use Rattle.request_grants.specs.Grants.{Chooses, grant_of, entries_left};
-ghost use Rattle.request_taking.specs.Takes.{one_chunk, AllStored};
+ghost use Rattle.request_taking.specs.Takes.{AllStored};
 ghost use Rattle.request_growth.specs.Grows.{growth_check};
 
-use entries::{Answered, Header, WhichList};
+use entries::{Answered, FourLists, Header, WhichList};
 use memory_structs::FrameRange;
 use model::Refusal;
 use request_search::Chosen;
@@ -24,7 +25,13 @@ pub fn grow_whole(h: Header, lists: &mut [u64], asked: FrameRange) -> Result<Ans
     requires lists_value { find h.sorted asked (lists_in h lists.old).reserved_free ≡ not_found }
     ensures { Does (grow (lists_in h lists.old) asked asked) lists.old (answered_by h result) lists.new }
 {
-    check_growth(h, lists, asked)?;
+    check_growth(
+        FourLists {
+            header: h,
+            entries: lists,
+        },
+        asked,
+    )?;
     let grown = add_reserved_region_to_lists(h, lists, asked);
     Ok(request_taking::granted(grown, asked))
 }
@@ -46,10 +53,15 @@ pub fn grow_tail(
         start: from,
         end: asked.end,
     };
-    check_growth(h, lists, tail)?;
+    let known = FourLists {
+        header: h,
+        entries: lists,
+    };
+    check_growth(known, tail)?;
     // Only sorted form misses a tail, and there the last chunk is the highest.
-    let last = count_in(h, lists, WhichList::ReservedFree) - 1;
-    let chosen = chunk_at(h, lists, last);
+    let chunks = known.list(WhichList::ReservedFree);
+    let last = chunks.count() - 1;
+    let chosen = Chosen::one(last, chunks.entry(last));
     let below = FrameRange {
         start: asked.start,
         end: chosen.range.end,
@@ -61,18 +73,17 @@ pub fn grow_tail(
 
 // Whether the part may become a region: "If that part meets a general region: 13. If it meets a reserved region: 16", and 18.
 #[tactic(auto, using(crate::proofs::Growing::thirteen, crate::proofs::Growing::sixteen, crate::proofs::Growing::eighteen, crate::proofs::Growing::no_refusal), unfolding(entries::specs::Whole::slots_at))]
-fn check_growth(h: Header, lists: &[u64], part: FrameRange) -> Result<(), Refusal>
-    requires ruled { Ruled h lists.now }
-    requires start_le_end { part.start ≤ part.end }
-    ensures { result ≡ growth_check part (lists_in h lists.now) }
+fn check_growth(lists: FourLists, part: FrameRange) -> Result<(), Refusal>
+    requires { part.start ≤ part.end }
+    ensures { result ≡ growth_check part (lists_of lists.entry) }
 {
-    if h.meets_in(lists, WhichList::GeneralRegions, part) {
+    if lists.list(WhichList::GeneralRegions).meets(part) {
         return Err(Refusal::NotFree);
     }
-    if h.meets_in(lists, WhichList::ReservedRegions, part) {
+    if lists.list(WhichList::ReservedRegions).meets(part) {
         return Err(Refusal::MeetsReservedRegion);
     }
-    if no_room_to_grow(h, lists) {
+    if no_room_to_grow(lists) {
         return Err(Refusal::NoPlace);
     }
     Ok(())
@@ -80,40 +91,17 @@ fn check_growth(h: Header, lists: &[u64], part: FrameRange) -> Result<(), Refusa
 
 // 18: the reserved regions are full, "early growth also when either reserved list has 32 already".
 #[tactic(auto, using(crate::proofs::Growing::full_regions, crate::proofs::Growing::room_sorted, crate::proofs::Growing::room_early), unfolding(entries::specs::Whole::lists_in, entries::specs::Whole::slots_at))]
-fn no_room_to_grow(h: Header, lists: &[u64]) -> bool
-    requires { Ruled h lists.now }
-    ensures { result ≡ no_room_to_grow (lists_in h lists.now) }
+fn no_room_to_grow(lists: FourLists) -> bool
+    ensures { result ≡ no_room_to_grow (lists_of lists.entry) }
 {
-    let regions = count_in(h, lists, WhichList::ReservedRegions);
-    let bound = h.part(WhichList::ReservedRegions).bound();
-    if bound <= regions {
+    let regions = lists.list(WhichList::ReservedRegions);
+    if regions.part.bound() <= regions.count() {
         return true;
     }
-    if h.sorted {
+    if lists.header.sorted {
         return false;
     }
-    32 <= count_in(h, lists, WhichList::ReservedFree)
-}
-
-// How many entries the list has.
-#[tactic(auto, using(entries::proofs::Whole::lent_fits, entries::proofs::Whole::lent_part, entries::proofs::Whole::lent_slots))]
-fn count_in(h: Header, lists: &[u64], which: WhichList) -> usize
-    requires { Ruled h lists.now }
-    ensures { result ≡ length (model.entries (slots_at which (lists_in h lists.now))) }
-{
-    h.part(which).count(&lists[h.words_of(which)])
-}
-
-// The reserved chunk at i, chosen.
-#[tactic(auto, using(entries::proofs::Whole::lent_fits, entries::proofs::Whole::lent_part, entries::proofs::Whole::lent_slots))]
-fn chunk_at(h: Header, lists: &[u64], i: usize) -> Chosen
-    requires ruled { Ruled h lists.now }
-    requires i_in_bounds { i < length (slots_at ReservedFree (lists_in h lists.now)) }
-    ensures { result ≡ one_chunk i (model.range_at (slots_at ReservedFree (lists_in h lists.now)) i) }
-{
-    let words = h.words_of(WhichList::ReservedFree);
-    let chunk = h.part(WhichList::ReservedFree).entry(&lists[words], i);
-    request_taking::one_chunk(i, chunk)
+    32 <= lists.list(WhichList::ReservedFree).count()
 }
 
 // The reserved chunk without the frames of `taken`; the other three lists stay as they are.

@@ -7,10 +7,10 @@ ghost use Rattle.model.specs.Lists.{range_at};
 ghost use Rattle.model.specs.Rules.{rising};
 ghost use Rattle.tables.specs.Slots.{slots};
 ghost use Rattle.model.specs.Requests as model;
-ghost use Rattle.entries.specs.Part.{part_slots, IsTidy};
-ghost use Rattle.request_search.specs.Searches.{answer_of};
+ghost use Rattle.entries.specs.Listed.{list_slots};
+ghost use Rattle.request_search.specs.Searches.{one_chunk, answer_of};
 
-use entries::Part;
+use entries::List;
 use memory_structs::FrameRange;
 use model::Refusal;
 use tables::Table;
@@ -23,18 +23,30 @@ pub struct Chosen {
     pub range: FrameRange,
 }
 
+impl Chosen {
+    // One chunk alone, the slot at i.
+    pub fn one(i: usize, chunk: FrameRange) -> Chosen
+        ensures { result ≡ one_chunk i chunk }
+    {
+        Chosen {
+            first: i,
+            many: 1,
+            range: chunk,
+        }
+    }
+}
+
 // The chunks that hold every frame that is asked for, or why there are none.
 #[tactic(auto, using(tables::proofs::Touching::tidy_rising))]
-pub fn find_specific_chunk(part: Part, t: &[u64], asked: FrameRange) -> Result<Chosen, Refusal>
-    requires tidy { IsTidy part t.now }
-    requires start_le_end { asked.start ≤ asked.end }
-    ensures { result ≡ answer_of (model.find part.sorted asked (part_slots part t.now)) }
+pub fn find_specific_chunk(list: List, asked: FrameRange) -> Result<Chosen, Refusal>
+    requires { asked.start ≤ asked.end }
+    ensures { result ≡ answer_of (model.find list.entry.part.sorted asked (list_slots list.entry)) }
 {
-    if part.sorted {
-        return find_in_table(part.table(t), asked);
+    if list.part.sorted {
+        return find_in_table(list.table(), asked);
     }
-    match part.slots(t).first_holding(asked) {
-        Some(i) => one_chunk(i, part.entry(t, i)),
+    match list.slots().first_holding(asked) {
+        Some(i) => Ok(Chosen::one(i, list.entry(i))),
         None => Err(Refusal::NotFound),
     }
 }
@@ -52,7 +64,7 @@ fn find_in_table(table: Table, asked: FrameRange) -> Result<Chosen, Refusal>
 }
 
 // The pair at i is the highest that starts at or below the request.
-#[tactic(auto, using(crate::proofs::Table::below, crate::proofs::Table::holds_all, crate::proofs::Table::holds_first))]
+#[tactic(auto, unfolding(crate::specs::Searches::answer_of), using(crate::proofs::Table::below, crate::proofs::Table::holds_all, crate::proofs::Table::holds_first))]
 fn from_chunk(table: Table, i: usize, asked: FrameRange) -> Result<Chosen, Refusal>
     requires { i < table.len }
     ensures { result ≡ answer_of (model.in_sorted asked (slots table.entry) (Some i)) }
@@ -62,7 +74,7 @@ fn from_chunk(table: Table, i: usize, asked: FrameRange) -> Result<Chosen, Refus
         return Err(Refusal::NotFound);
     }
     if asked.end <= chunk.end {
-        return one_chunk(i, chunk);
+        return Ok(Chosen::one(i, chunk));
     }
     with_next(table, i, chunk, asked.end)
 }
@@ -97,17 +109,5 @@ fn with_next(table: Table, i: usize, chunk: FrameRange, end: u64) -> Result<Chos
             start: chunk.start,
             end: above.end,
         },
-    })
-}
-
-// One chunk holds all of the request.
-#[tactic(auto, unfolding(crate::specs::Searches::answer_of))]
-fn one_chunk(i: usize, chunk: FrameRange) -> Result<Chosen, Refusal>
-    ensures { result ≡ answer_of (model.chunks i 1 chunk) }
-{
-    Ok(Chosen {
-        first: i,
-        many: 1,
-        range: chunk,
     })
 }

@@ -11,10 +11,6 @@ use Rattle.entries.specs.Whole.{slots_at, with_slots, header_of, entries_of, ans
 use Rattle.request_search.specs.declared.Chosen.{Chosen}
 use Rattle.request_grants.specs.Grants.{grant_of, entries_left}
 
--- one chunk, chosen
-abbrev pub one_chunk : ℕ → FrameRange → Chosen
-one_chunk i c = record { first = i; many = 1; range = c }
-
 -- 18: "after the call a list would hold more than 32 (early) or 512 (sorted) entries"; else the grant.
 -- `general_taken` and `reserved_taken` (proofs/Taken) say that this is the model's `take_general` and `take_reserved`.
 unfoldable pub taken : WhichList → Chosen → FrameRange → Lists → Result

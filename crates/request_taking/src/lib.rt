@@ -4,32 +4,28 @@
 
 ghost use Rattle.std.specs.Prelude.{◌≡◌, ◌≤◌};
 ghost use Rattle.model.specs.Requests.{find};
+ghost use Rattle.entries.specs.Listed.{lists_of};
 ghost use Rattle.entries.specs.Whole.{lists_in, slots_at, answered_by, Ruled, Does};
 ghost use Rattle.request_search.specs.Searches.{answer_of};
 ghost use Rattle.request_grants.specs.Grants.{Chooses};
-ghost use Rattle.request_taking.specs.Takes.{one_chunk, taken, granted_with};
+ghost use Rattle.request_taking.specs.Takes.{taken, granted_with};
 
-use entries::{Answered, Header, WhichList};
+use entries::{Answered, FourLists, Header, WhichList};
 use memory_structs::FrameRange;
 use model::{Answer, Refusal};
 use request_search::Chosen;
 
 // The chunks of the list that hold every frame that is asked for, or why there are none.
-#[tactic(auto, using(entries::proofs::Whole::lent_fits, entries::proofs::Whole::lent_slots, entries::proofs::Whole::lent_tidy))]
-pub fn find_in(
-    h: Header,
-    lists: &[u64],
-    which: WhichList,
-    asked: FrameRange,
-) -> Result<Chosen, Refusal>
-    requires ruled { Ruled h lists.now }
-    requires start_le_end { asked.start ≤ asked.end }
-    ensures { result ≡ answer_of (find h.sorted asked (slots_at which (lists_in h lists.now))) }
+pub fn find_in(lists: FourLists, which: WhichList, asked: FrameRange) -> Result<Chosen, Refusal>
+    requires { asked.start ≤ asked.end }
+    ensures { result ≡ answer_of (find lists.entry.header.sorted asked (slots_at which (lists_of lists.entry))) }
 {
-    request_search::find_specific_chunk(h.part(which), &lists[h.words_of(which)], asked)
+    request_search::find_specific_chunk(lists.list(which), asked)
 }
 
-// The frames of `asked` are granted from the chunks that hold them; 18 where what is left over has no place.
+// The frames of `asked` are granted from the chunks that hold them; 18 where what is left over has no place. The part, the
+// call on it and its new length stand so in four functions: one that took the call as a closure would state the words before and after by the
+// closure's clause, which says no more than these lines.
 #[tactic(auto, using(entries::proofs::Whole::lent_fits, entries::proofs::Whole::lent_tidy, crate::proofs::Taken::lent_chooses, crate::proofs::Taken::does_not_take, crate::proofs::Taken::does_take))]
 pub fn take_in(
     h: Header,
@@ -57,16 +53,5 @@ pub fn granted(h: Header, asked: FrameRange) -> Answered
     Answered {
         answer: Answer::granted(asked),
         header: h,
-    }
-}
-
-// The chunk that is the slot at i, chosen.
-pub fn one_chunk(i: usize, chunk: FrameRange) -> Chosen
-    ensures { result ≡ one_chunk i chunk }
-{
-    Chosen {
-        first: i,
-        many: 1,
-        range: chunk,
     }
 }

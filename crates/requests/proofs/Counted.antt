@@ -15,7 +15,8 @@ use Rattle.entries.specs.declared.header.WhichList.TheVariants.{GeneralFree}
 use Rattle.request_search.specs.declared.Chosen.{Chosen}
 use Rattle.request_grants.specs.Grants.{Chooses}
 use Rattle.request_grants.proofs.Chosen.{place_chooses, place_low}
-use Rattle.request_taking.specs.Takes.{one_chunk, taken}
+use Rattle.request_search.specs.Searches.{one_chunk}
+use Rattle.request_taking.specs.Takes.{taken}
 use Rattle.request_taking.proofs.Taken.{general_taken}
 
 -- by count

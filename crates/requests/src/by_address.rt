@@ -6,11 +6,12 @@ ghost use Rattle.entries.specs.Whole.{lists_in, answered_by, Ruled, Does};
 ghost use Rattle.requests.specs.Asks.{asked_range};
 
 use crate::by_count::frames_of;
-use entries::{Answered, Header, WhichList};
+use entries::{Answered, FourLists, Header, WhichList};
 use memory_structs::{ADDRESS_LIMIT, FRAME_SIZE, FrameRange};
 use model::Refusal;
 
 // "Address, whole: the reserved list first."
+#[tactic(auto, using(crate::proofs::Asked::some_frames, crate::proofs::Searched::said_not), unfolding(entries::specs::Whole::lists_in, entries::specs::Whole::slots_at))]
 pub fn frames_at(
     h: Header,
     lists: &mut [u64],
@@ -21,7 +22,11 @@ pub fn frames_at(
     ensures { Does (by_address frame num_frames (lists_in h lists.old)) lists.old (answered_by h result) lists.new }
 {
     let asked = asked_range(frame, num_frames)?;
-    match request_taking::find_in(h, lists, WhichList::ReservedFree, asked) {
+    let known = FourLists {
+        header: h,
+        entries: lists,
+    };
+    match request_taking::find_in(known, WhichList::ReservedFree, asked) {
         Ok(chosen) => request_taking::take_in(h, lists, WhichList::ReservedFree, chosen, asked),
         Err(Refusal::NotFound) => in_general_list(h, lists, asked),
         Err(Refusal::Missing { frame, .. }) => request_growth::grow_tail(h, lists, frame, asked),
@@ -29,6 +34,7 @@ pub fn frames_at(
     }
 }
 
+#[tactic(auto, using(entries::proofs::Whole::does_as, crate::proofs::Asked::address_bytes_on))]
 pub fn bytes_at(
     h: Header,
     lists: &mut [u64],
@@ -38,7 +44,7 @@ pub fn bytes_at(
     requires { Ruled h lists.old }
     ensures { Does (by_address_bytes address num_bytes (lists_in h lists.old)) lists.old (answered_by h result) lists.new }
 {
-    // The two limits alone: the end is tested after 1 (`asked_range`).
+    // The two limits alone, each by itself, as document 01 lists them: the end is tested after 1 (`asked_range`).
     if ADDRESS_LIMIT <= address {
         return Err(Refusal::OutOfBounds);
     }
@@ -58,6 +64,7 @@ fn frames_from(address: u64, num_bytes: u64) -> u64
 }
 
 // A general-only request looks at the general list alone; 15 says what is missing.
+#[tactic(auto, using(crate::proofs::Asked::some_frames))]
 pub fn general_frames_at(
     h: Header,
     lists: &mut [u64],
@@ -68,18 +75,27 @@ pub fn general_frames_at(
     ensures { Does (by_address_general frame num_frames (lists_in h lists.old)) lists.old (answered_by h result) lists.new }
 {
     let asked = asked_range(frame, num_frames)?;
-    let chosen = request_taking::find_in(h, lists, WhichList::GeneralFree, asked)?;
+    let known = FourLists {
+        header: h,
+        entries: lists,
+    };
+    let chosen = request_taking::find_in(known, WhichList::GeneralFree, asked)?;
     request_taking::take_in(h, lists, WhichList::GeneralFree, chosen, asked)
 }
 
 // "On *not found*, the general list; there *missing* gives 12. On *not found* twice take the whole request".
+#[tactic(auto, using(entries::proofs::Whole::does_as, crate::proofs::Searched::said_not, crate::proofs::Searched::general_not), unfolding(entries::specs::Whole::lists_in, entries::specs::Whole::slots_at))]
 fn in_general_list(h: Header, lists: &mut [u64], asked: FrameRange) -> Result<Answered, Refusal>
     requires ruled { Ruled h lists.old }
     requires start_le_end { asked.start ≤ asked.end }
     requires lists_value { find h.sorted asked (lists_in h lists.old).reserved_free ≡ not_found }
     ensures { Does (in_reserved (lists_in h lists.old) asked not_found) lists.old (answered_by h result) lists.new }
 {
-    match request_taking::find_in(h, lists, WhichList::GeneralFree, asked) {
+    let known = FourLists {
+        header: h,
+        entries: lists,
+    };
+    match request_taking::find_in(known, WhichList::GeneralFree, asked) {
         Ok(chosen) => request_taking::take_in(h, lists, WhichList::GeneralFree, chosen, asked),
         Err(Refusal::NotFound) => request_growth::grow_whole(h, lists, asked),
         Err(Refusal::Missing { .. }) => Err(Refusal::NotFound),

@@ -1,12 +1,12 @@
 // Requests by count: so many general frames, wherever they are. Document 01, "How a request is met".
-ghost use Rattle.std.specs.Prelude.{◌≡◌, ◌+◌, ◌≤◌};
-ghost use Rattle.memory_structs.specs.Range.{address_limit, frame_size};
+ghost use Rattle.std.specs.Prelude.{◌≡◌};
 ghost use Rattle.model.specs.Requests.{by_count, by_bytes, frames_of};
 ghost use Rattle.entries.specs.Whole.{lists_in, answered_by, Ruled, Does};
 
-use entries::{Answered, Header, WhichList};
+use entries::{Answered, FourLists, Header, WhichList};
 use memory_structs::{ADDRESS_LIMIT, FRAME_SIZE, FrameRange};
 use model::Refusal;
+use request_search::Chosen;
 
 // "Count: early form takes the first slot that is large enough, sorted form the highest chunk; the grant is that chunk's beginning."
 pub fn count_frames(h: Header, lists: &mut [u64], num_frames: u64) -> Result<Answered, Refusal>
@@ -16,12 +16,15 @@ pub fn count_frames(h: Header, lists: &mut [u64], num_frames: u64) -> Result<Ans
     if num_frames == 0 {
         return Err(Refusal::NoFrames);
     }
-    let part = h.part(WhichList::GeneralFree);
-    let chunks = &lists[h.words_of(WhichList::GeneralFree)];
-    let Some(i) = part.find_large(chunks, num_frames) else {
+    let known = FourLists {
+        header: h,
+        entries: lists,
+    };
+    let chunks = known.list(WhichList::GeneralFree);
+    let Some(i) = chunks.find_large(num_frames) else {
         return Err(Refusal::NoLargeChunk);
     };
-    let chosen = request_taking::one_chunk(i, part.entry(chunks, i));
+    let chosen = Chosen::one(i, chunks.entry(i));
     let start = chosen.range.start;
     let end = start + (num_frames - 1);
     let asked = FrameRange { start, end };
@@ -29,6 +32,7 @@ pub fn count_frames(h: Header, lists: &mut [u64], num_frames: u64) -> Result<Ans
 }
 
 // "Bytes: add to the bytes the remainder of the address by 4096 (0 where no address is named), divide by 4096, round up."
+#[tactic(auto, using(entries::proofs::Whole::does_as, crate::proofs::Counted::bytes_on))]
 pub fn count_bytes(h: Header, lists: &mut [u64], num_bytes: u64) -> Result<Answered, Refusal>
     requires { Ruled h lists.old }
     ensures { Does (by_bytes num_bytes (lists_in h lists.old)) lists.old (answered_by h result) lists.new }
@@ -42,8 +46,7 @@ pub fn count_bytes(h: Header, lists: &mut [u64], num_bytes: u64) -> Result<Answe
 // "divide by 4096, round up"
 #[tactic(auto, unfolding(model::specs::Requests::frames_of))]
 pub fn frames_of(num_bytes: u64) -> u64
-    requires { num_bytes ≤ address_limit + frame_size }
     ensures { result ≡ frames_of num_bytes }
 {
-    (num_bytes + (FRAME_SIZE - 1)) / FRAME_SIZE
+    num_bytes.div_ceil(FRAME_SIZE)
 }

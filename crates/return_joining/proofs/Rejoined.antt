@@ -1,5 +1,5 @@
 -- A return to one list, as the searches find it.
-use Prim.Native.Nat.{ℕ, zero, suc, ◌+◌, ◌≤◌, ◌<◌}
+use Prim.Native.Nat.{ℕ, ◌+◌, ◌≤◌, ◌<◌}
 use native.Mathlib.Omega.{arith}
 use mathlib.Core.Path.{◌≡◌, refl, sym, ap, subst, ◌∙◌}
 use mathlib.Core.Bool.{Bool, true, false}
@@ -20,17 +20,10 @@ use Rattle.model.proofs.Whole.{used_count}
 use Rattle.tables.specs.Words.{IsTable}
 use Rattle.tables.proofs.Search.{leb_same}
 use Rattle.model.specs.Store.{slot_words, length_in}
-use Rattle.model.proofs.Stored.{AllUsed, none, one}
 use Rattle.pairs.specs.Pairs.{pair_slots}
 use Rattle.entries.specs.Part.{slots_in, part_words}
-use Rattle.entries.proofs.Forms.{at_sorted, at_early, length_replaced}
+use Rattle.entries.proofs.Forms.{at_sorted, at_early, length_replaced, replaced_used}
 use Rattle.return_joining.specs.Rejoins.{GoesBack}
-
-replaced_used : (i : ℕ) (r : FrameRange) {s : List Slot} → AllUsed s → AllUsed (replace_at i r s)
-unfolding replace_at
-replaced_used i r none = none
-replaced_used zero r (one u) = one u
-replaced_used (suc i) r (one u) = one (replaced_used i r u)
 
 -- a pair that a search answers is one of the table's
 pub found_pair : (p : FrameRange → Bool) (n : ℕ) (ws : List ℕ) (i : ℕ) → Some i ≡ first_where p (table_slots n ws) → i < n

@@ -43,7 +43,8 @@ fn add_slot(t: &mut [u64], range: FrameRange) -> Option<usize>
     Some(0)
 }
 
-// The chunk that is joined is rewritten where it stands, so that no word moves.
+// The chunk that is joined is rewritten where it stands, so that no word moves. Words and length are two parameters, as in `tables`.
+#[tactic(auto, using(crate::proofs::Rejoined::found_pair, crate::proofs::Rejoined::found_neither))]
 fn rejoin_table(t: &mut [u64], len: usize, range: FrameRange) -> Option<usize>
     requires table { IsTable len t.old }
     requires t_value { tidy true (table_slots len t.old) ≡ true }

@@ -4,10 +4,11 @@
 ghost use Rattle.std.specs.Prelude.{◌≡◌, ◌≤◌};
 ghost use Rattle.memory_structs.specs.Range.{top};
 ghost use Rattle.model.specs.Returns.{give_back};
+ghost use Rattle.entries.specs.Listed.{lists_of};
 ghost use Rattle.entries.specs.Whole.{lists_in, answered_by, Ruled, Does};
 ghost use Rattle.returns.specs.Given.{any_free, given_to};
 
-use entries::{Answered, Header, WhichList};
+use entries::{Answered, FourLists, Header, WhichList};
 use memory_structs::FrameRange;
 use model::{Answer, Refusal};
 
@@ -26,13 +27,17 @@ pub fn give_back(h: Header, lists: &mut [u64], range: FrameRange) -> Result<Answ
     if range.is_above_top() {
         return Err(Refusal::OutOfBounds);
     }
-    if is_any_free(h, lists, range) {
+    let known = FourLists {
+        header: h,
+        entries: lists,
+    };
+    if is_any_free(known, range) {
         return Err(Refusal::NotHeld);
     }
-    if h.covers_in(lists, WhichList::GeneralRegions, range) {
+    if known.list(WhichList::GeneralRegions).covers(range) {
         return give_to(h, lists, WhichList::GeneralFree, range);
     }
-    if h.covers_in(lists, WhichList::ReservedRegions, range) {
+    if known.list(WhichList::ReservedRegions).covers(range) {
         return give_to(h, lists, WhichList::ReservedFree, range);
     }
     Err(Refusal::NotHeld)
@@ -40,15 +45,12 @@ pub fn give_back(h: Header, lists: &mut [u64], range: FrameRange) -> Result<Answ
 
 // 19: "a returned frame is free", of either kind.
 #[tactic(auto, using(crate::proofs::Giving::general_free, crate::proofs::Giving::reserved_free), unfolding(entries::specs::Whole::slots_at))]
-fn is_any_free(h: Header, lists: &[u64], range: FrameRange) -> bool
-    requires ruled { Ruled h lists.now }
-    requires start_le_end { range.start ≤ range.end }
-    ensures { result ≡ any_free range (lists_in h lists.now) }
+fn is_any_free(lists: FourLists, range: FrameRange) -> bool
+    requires { range.start ≤ range.end }
+    ensures { result ≡ any_free range (lists_of lists.entry) }
 {
-    if h.meets_in(lists, WhichList::GeneralFree, range) {
-        return true;
-    }
-    h.meets_in(lists, WhichList::ReservedFree, range)
+    lists.list(WhichList::GeneralFree).meets(range)
+        || lists.list(WhichList::ReservedFree).meets(range)
 }
 
 // The frames go to this free list, or 18 where it has no place for them.

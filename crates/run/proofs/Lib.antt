@@ -1,5 +1,6 @@
 pub mod Along
 pub mod Left
+pub mod Chunks
 pub mod Opened
 pub mod Turns
 pub mod Going

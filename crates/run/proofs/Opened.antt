@@ -19,6 +19,7 @@ use Rattle.model.proofs.Lawful.{Lawful}
 use Rattle.rules.specs.Check as whole
 use Rattle.rules.specs.Check.{verdict, Verdict}
 use Rattle.rules.proofs.Going.{ruled_stands, gives_does}
+use Rattle.rules.proofs.Held.{held_going}
 use Rattle.rules.proofs.Numbers.{passed_number, verdict_ruled}
 use Rattle.entries.specs.Whole.{lists_in, Ruled}
 use Rattle.entries.specs.declared.header.Header.{Header}
@@ -26,7 +27,6 @@ use Rattle.entries.specs.declared.header.Answered.{Answered}
 use Rattle.packing.specs.Packed.{Apart, Closable, closed}
 use Rattle.packing.specs.Open.{lent, DoesOpen}
 use Rattle.rules.proofs.OpenAs.{OpenAs, apart_as, open_ruled, open_lists, open_answers, open_words, open_after, close_can, close_is}
-use Rattle.queries.proofs.Asked.{held_going}
 use Rattle.run_calls.specs.declared.OpenCall.{OpenCall}
 use Rattle.run_calls.specs.Commands.{open_call}
 use Rattle.run_calls.specs.Made.{verdict_for, Made, LeftOpen, MadeOpen, refused, done}
@@ -134,11 +134,9 @@ module _ (c : OpenCall) (test : Verdict) (a : FrameAllocator) (h : Header) (es w
               words = open_words s.opens (answer it) keeps form x;
             }));
         buffer = record {
-          listed = λ e. (held_going (closed a h es) ws before (long_held (length before) (ap short_buffer (sym e) ∙ goes_long it test z)) y {x = d.answer} {after = after}
-              (record {
-                answers = open_answers s.opens (answer it) keeps form x ∙ (λ i. (answer (e i) l).answer) ∙ held_is (length before) l ∙ ap (λ (m : Lists). (held_runs m).answer) (sym same);
-                written = subst (λ (m : Lists). HeldWritten m d.answer.count before after) (open_lists s.opens ∙ sym same) (left.listed e);
-              })).buffer;
+          listed = λ e. (held_going (closed a h es) ws y before (long_held (length before) (ap short_buffer (sym e) ∙ goes_long it test z)) {x = d.answer} {after = after}
+              (open_answers s.opens (answer it) keeps form x ∙ (λ i. (answer (e i) l).answer) ∙ held_is (length before) l ∙ ap (λ (m : Lists). (held_runs m).answer) (sym same))
+              (subst (λ (m : Lists). HeldWritten m d.answer.count before after) (open_lists s.opens ∙ sym same) (left.listed e))).buffer;
           kept = left.kept;
         };
       }

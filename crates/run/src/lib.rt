@@ -7,11 +7,11 @@ ghost use Rattle.packing.specs.Packed.{Closable};
 ghost use Rattle.run.specs.Runs.{record_now, Runs};
 ghost use Rattle.model.specs.Words.{answer_words};
 
-use entries::Header;
-use model::{Answer, FrameAllocator, Refusal};
+use model::{Answer, FrameAllocator};
+use rules::Opened;
 use run_calls::RunCall;
 
-// Why a run ended.
+// Why a run ended. No `Result`: a run that ends early has made calls too, and C reads all three endings as a number.
 #[derive(Clone, Copy)]
 pub enum RunEnd {
     Done,
@@ -36,7 +36,7 @@ pub struct Ran {
 }
 
 // Each call gets record and workspace as the call before left them. Its answer goes to the next five words of the buffer. The record is
-// opened once; a boot or a sort, which may change the form, closes it and opens it again.
+// opened once; a boot or a sort, which may change the form, closes it and opens it again. Six parameters: each buffer of a run is lent by C.
 pub fn run(
     a: FrameAllocator,
     words: &mut [u64],
@@ -48,18 +48,16 @@ pub fn run(
     ensures { Runs areas.now calls.now a words.old answers.old held.old result words.new answers.new held.new }
 {
     let mut slots = [0u64; 256];
-    let opened = rules::open(&a, words, &mut slots);
-    let tested = opened.tested;
+    let mut opened = rules::open(&a, words, &mut slots);
     // The record as it was opened last: its lengths and its slots may be old ones.
     let mut allocator = a;
-    let mut h = opened.header;
     let mut ending = Ending {
         made: calls.len() / 3,
         end: RunEnd::Done,
     };
     for made in 0..calls.len() / 3 {
-        let i = 3 * made;
-        let decoded = run_calls::decode(areas.len(), calls[i], calls[i + 1], calls[i + 2]);
+        let [what, x, y] = calls.as_chunks::<3>().0[made];
+        let decoded = run_calls::decode(areas.len(), what, x, y);
         let Some(command) = decoded else {
             let end = RunEnd::Damaged;
             ending = Ending { made, end };
@@ -73,34 +71,34 @@ pub fn run(
         }
         match command {
             RunCall::Keep(call) => {
-                let done = run_calls::make_open(tested, h, &mut slots, words, call, held);
+                let done = run_calls::make_open(opened, &mut slots, words, call, held);
                 put_answer(answers, at, done.answer);
-                h = done.header;
+                opened.header = done.header;
             }
             RunCall::Change(call) => {
-                close_tested(tested, &mut allocator, h, &slots);
-                let called = run_calls::change_form(allocator, words, tested, call, areas);
+                close_tested(opened, &mut allocator, &slots);
+                let called = run_calls::change_form(allocator, words, opened.tested, call, areas);
                 put_answer(answers, at, called.answer);
                 allocator = called.allocator;
-                h = packing::take_apart(&allocator, &mut slots);
+                opened.header = packing::take_apart(&allocator, &mut slots);
             }
         }
     }
-    close_tested(tested, &mut allocator, h, &slots);
+    close_tested(opened, &mut allocator, &slots);
     Ran { ending, allocator }
 }
 
 // The record as the calls left it; one that the test refuses stays as it was.
-fn close_tested(tested: Result<(), Refusal>, a: &mut FrameAllocator, h: Header, slots: &[u64])
-    requires { tested ≡ Ok tt → Closable (a.old.sorted && h.sorted) slots.now }
-    ensures { a.new ≡ record_now tested a.old h slots.now }
+fn close_tested(opened: Opened, a: &mut FrameAllocator, slots: &[u64])
+    requires { opened.tested ≡ Ok tt → Closable (a.old.sorted && opened.header.sorted) slots.now }
+    ensures { a.new ≡ record_now opened.tested a.old opened.header slots.now }
 {
-    if tested.is_ok() {
-        packing::close(a, h, slots);
+    if opened.tested.is_ok() {
+        packing::close(a, opened.header, slots);
     }
 }
 
-// An answer in five words: number, start, end, frame, count.
+// An answer in five words: number, start, end, frame, count. By a slice: five words from a place need no list of fives.
 fn put_answer(answers: &mut [u64], at: usize, x: Answer)
     requires { at + 5 ≤ length answers.old }
     ensures { answers.new ≡ take at answers.old ++ answer_words x ++ drop (at + 5) answers.old }

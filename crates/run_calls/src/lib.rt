@@ -16,6 +16,7 @@ use entries::{Answered, Header};
 use memory_structs::FrameRange;
 use model::{Answer, Called, FrameAllocator, Kind, Refusal};
 use requests::Request;
+use rules::Opened;
 
 // A call of a run: every call of demand 3 is one.
 #[derive(Clone, Copy)]
@@ -36,7 +37,8 @@ pub enum FormCall {
     Sort,
 }
 
-// A call that keeps the form: it is made on the allocator as it stands open.
+// A call that keeps the form: it is made on the allocator as it stands open. `Allocate` and `Return` stand here too: with `calls::Operation` inside,
+// each line of `decode` would name a fourth enum.
 #[derive(Clone, Copy)]
 pub enum OpenCall {
     Allocate(Request),
@@ -46,7 +48,7 @@ pub enum OpenCall {
     HeldList,
 }
 
-// Words that the call doesn't use are not looked at. `None` where the first is no call, and for a boot whose areas are not all in the
+// The numbers are those of docs/RUN.md. Words that the call doesn't use are not looked at. `None` where the first is no call, and for a boot whose areas are not all in the
 // list: such a call is damaged.
 #[tactic(auto, unfolding(crate::specs::Commands::decoded))]
 pub fn decode(areas_len: usize, what: u64, x: u64, y: u64) -> Option<RunCall>
@@ -98,10 +100,7 @@ fn are_listed(areas_len: usize, first: u64, count: u64) -> bool
     ensures { result ≡ spec.are_listed areas_len first count }
 {
     let areas = (areas_len / 3) as u64;
-    if first <= areas {
-        return count <= areas - first;
-    }
-    false
+    first <= areas && count <= areas - first
 }
 
 // Makes a call that may change the form, on the record, which was tested before: its verdict lasts (`verdict_lasts`, rules/proofs/Lasting).
@@ -130,17 +129,17 @@ pub fn change_form(
 // is too short: 3 comes before 11.
 #[tactic(auto, using(crate::proofs::Making::request_made, crate::proofs::Making::return_made, crate::proofs::Making::kind_made, crate::proofs::Making::total_made))]
 pub fn make_open(
-    tested: Result<(), Refusal>,
-    h: Header,
+    opened: Opened,
     slots: &mut [u64],
     words: &mut [u64],
     call: OpenCall,
     held: &mut [u64],
 ) -> Answered
-    requires { tested ≡ Ok tt → whole.Ruled h (lent h.sorted slots.old words.old) }
-    ensures { MadeOpen (open_call (length held.old) call) tested h slots.old words.old held.old result slots.new words.new held.new }
+    requires { opened.tested ≡ Ok tt → whole.Ruled opened.header (lent opened.header.sorted slots.old words.old) }
+    ensures { MadeOpen (open_call (length held.old) call) opened.tested opened.header slots.old words.old held.old result slots.new words.new held.new }
 {
-    if let Err(refusal) = check_call(call, tested, held.len()) {
+    let h = opened.header;
+    if let Err(refusal) = check_call(call, opened.tested, held.len()) {
         return answered(h, Answer::from(refusal));
     }
     match call {
@@ -148,9 +147,18 @@ pub fn make_open(
             calls::operate(h, slots, words, Operation::Allocate(request))
         }
         OpenCall::Return(range) => calls::operate(h, slots, words, Operation::Return(range)),
-        OpenCall::KindOf(range) => answered(h, queries::kind(h, slots, words, range)),
-        OpenCall::FreeTotal(kind) => answered(h, queries::free_frames(h, slots, words, kind)),
-        OpenCall::HeldList => answered(h, queries::list_held(h, slots, words, held)),
+        OpenCall::KindOf(range) => {
+            let lists = packing::lists_of(h, slots, words);
+            answered(h, query_core::kind(lists, range))
+        }
+        OpenCall::FreeTotal(kind) => {
+            let lists = packing::lists_of(h, slots, words);
+            answered(h, query_core::free_total(lists, kind))
+        }
+        OpenCall::HeldList => {
+            let lists = packing::lists_of(h, slots, words);
+            answered(h, query_core::held_list(lists, held))
+        }
     }
 }
 
@@ -159,13 +167,10 @@ pub fn make_open(
 fn check_call(call: OpenCall, tested: Result<(), Refusal>, buffer_len: usize) -> Result<(), Refusal>
     ensures { result ≡ verdict_for (open_call buffer_len call) tested }
 {
-    let OpenCall::HeldList = call else {
-        return tested;
-    };
-    if buffer_len < 2048 {
-        return Err(Refusal::TooFewWords);
+    match call {
+        OpenCall::HeldList if buffer_len < 2048 => Err(Refusal::TooFewWords),
+        _ => tested,
     }
-    tested
 }
 
 // A question leaves the header as it was.

@@ -1,8 +1,6 @@
 -- `carve`: at each turn the general areas before i are carved.
-use Rattle.std.proofs.Common.{◌≡◌, take}
-use Rattle.carving.specs.Ranges.{listed, ranges_in}
-use Rattle.areas.specs.Areas.{pieces_in}
+use Rattle.areas.proofs.Steps.{Carving}
 use Rattle.areas.proofs.carve.Given as goal
 
 abbrev pub invariant-loop-i : goal.invariant-loop-i
-invariant-loop-i g l = l.pieces ≡ listed (pieces_in (ranges_in l.reserved) (take l.i (g.M.BootMap.areas l.map)))
+invariant-loop-i g l = Carving l.reserved (g.M.BootMap.areas l.map) l.pieces.items l.i

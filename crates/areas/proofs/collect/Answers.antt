@@ -1,10 +1,19 @@
--- `collect`: at each turn the areas before i are collected.
-use Rattle.std.proofs.Common.{refl, arith}
-use Rattle.areas.proofs.Steps.{nothing_yet, collected_next}
+-- `collect`: one area more is collected.
+use Rattle.std.proofs.Common.{◌≡◌, Err, arith, rules}
+use Rattle.model.specs.declared.refusals.Refusal.TheVariants.{TooManyReservedAreas}
+use Rattle.areas.proofs.Steps.{collect_general, collect_reserved, collect_many}
 use Rattle.areas.proofs.collect.Goals as goal
+use Rattle.areas.proofs.collect.Goals.{in-General, in-Reserved+in_ok-map_err-in-Reserved}
 
-pub loop-i-init : goal.loop-i-init
-loop-i-init g c = nothing_yet _ c.new.ensures refl refl
+pub returns-in_err-map_err-in-Reserved : goal.returns-in_err-map_err-in-Reserved
+returns-in_err-map_err-in-Reserved g c =
+    let refused : c.from_residual.result ≡ Err TooManyReservedAreas = search rules in
+    rw refused (collect_many _ _ (omega arith) _ c.area_at-area.ensures _ _ _ c.loop-i.invariant c.in-Reserved.is (search rules))
 
 pub loop-i-preserved : goal.loop-i-preserved
-loop-i-preserved g c = collected_next _ _ (omega arith) _ c.area_at.ensures _ _ c.loop-i.invariant c.add.ensures
+loop-i-preserved g c =
+    elim c.match-area.branch [
+      | in-General w ↦ rw (w.reserved-is, w.any_empty-is) (collect_general _ _ (omega arith) _ c.area_at-area.ensures _ _ _ c.loop-i.invariant w.in-General.is)
+      | in-Reserved+in_ok-map_err-in-Reserved w ↦
+          rw w.reserved-is (collect_reserved _ _ (omega arith) _ c.area_at-area.ensures _ _ _ c.loop-i.invariant w.in-Reserved.is _ (search rules) (search rules) _ (search rules))
+    ]

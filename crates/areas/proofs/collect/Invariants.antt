@@ -1,7 +1,6 @@
 -- `collect`: at each turn the areas before i are collected.
-use Rattle.std.proofs.Common.{take}
-use Rattle.areas.specs.Areas.{CollectedOf}
+use Rattle.areas.proofs.Steps.{Collecting}
 use Rattle.areas.proofs.collect.Given as goal
 
 abbrev pub invariant-loop-i : goal.invariant-loop-i
-invariant-loop-i g l = CollectedOf (take l.i (g.M.BootMap.areas l.map)) l.collected
+invariant-loop-i g l = Collecting (g.M.BootMap.areas l.map) l.reserved.items l.any_empty l.any_outside l.i

@@ -1,39 +1,34 @@
 -- `put_lists`: one line after another, each within its room.
 use native.Mathlib.Omega.{arith}
-use Rattle.entries.specs.Whole.{lists_in}
-use Rattle.bench_texts.proofs.Puts.{puts_then}
+use mathlib.Core.Path.{ap}
+use mathlib.Core.List.{append_assoc}
+use lib.ListN.{length}
 use Rattle.bench_lists.proofs.Going.{line_within}
 use Rattle.bench_answers.specs.Answered.{four_lines}
 use Rattle.bench_answers.proofs.put_lists.Goals as goal
 
-pub put_list-general_regions_at-requires-clause-line_room_in_bounds : goal.put_list-general_regions_at-requires-clause-line_room_in_bounds
-put_list-general_regions_at-requires-clause-line_room_in_bounds c = omega (arith, c.requires.reply_room_in_bounds, line_within _ _ c.requires.ruled.keeps c.put_list-reserved_free_at.ensures)
+pub put_list-requires-2 : goal.put_list-requires-2
+put_list-requires-2 c = omega (arith, ap length c.requires, line_within _ _ c.args.out.now.items c.args.lists.ruled.keeps c.put_list.ensures)
 
-pub put_list-reserved_regions_at-requires-clause-line_room_in_bounds : goal.put_list-reserved_regions_at-requires-clause-line_room_in_bounds
-put_list-reserved_regions_at-requires-clause-line_room_in_bounds c =
+pub put_list-requires-3 : goal.put_list-requires-3
+put_list-requires-3 c =
     omega (
       arith,
-      c.requires.reply_room_in_bounds,
-      line_within _ _ c.requires.ruled.keeps c.put_list-reserved_free_at.ensures,
-      line_within _ _ c.requires.ruled.keeps c.put_list-general_regions_at.ensures,
+      ap length c.requires,
+      line_within _ _ c.args.out.now.items c.args.lists.ruled.keeps c.put_list.ensures,
+      line_within _ _ c.put_list.new.out.items c.args.lists.ruled.keeps c.put_list-2.ensures,
     )
 
-pub put_list-requires-clause-line_room_in_bounds : goal.put_list-requires-clause-line_room_in_bounds
-put_list-requires-clause-line_room_in_bounds c =
+pub put_list-requires-4 : goal.put_list-requires-4
+put_list-requires-4 c =
     omega (
       arith,
-      c.requires.reply_room_in_bounds,
-      line_within _ _ c.requires.ruled.keeps c.put_list-reserved_free_at.ensures,
-      line_within _ _ c.requires.ruled.keeps c.put_list-general_regions_at.ensures,
-      line_within _ _ c.requires.ruled.keeps c.put_list-reserved_regions_at.ensures,
+      ap length c.requires,
+      line_within _ _ c.args.out.now.items c.args.lists.ruled.keeps c.put_list.ensures,
+      line_within _ _ c.put_list.new.out.items c.args.lists.ruled.keeps c.put_list-2.ensures,
+      line_within _ _ c.put_list-2.new.out.items c.args.lists.ruled.keeps c.put_list-3.ensures,
     )
 
 pub returns : goal.returns
 unfolding four_lines
-returns c =
-    let l = lists_in c.args.h c.args.lists.now in
-    let w1 = line_within l _ c.requires.ruled.keeps c.put_list-reserved_free_at.ensures in
-    let w2 = line_within l _ c.requires.ruled.keeps c.put_list-general_regions_at.ensures in
-    puts_then (omega arith) c.put_list-reserved_free_at.ensures
-    (puts_then (omega (arith, c.requires.reply_room_in_bounds, w1)) c.put_list-general_regions_at.ensures
-    (puts_then (omega (arith, c.requires.reply_room_in_bounds, w1, w2)) c.put_list-reserved_regions_at.ensures c.put_list.ensures))
+returns c = rw (c.put_list-4.ensures, c.put_list-3.ensures, c.put_list-2.ensures, c.put_list.ensures, c.requires) (simp append_assoc)

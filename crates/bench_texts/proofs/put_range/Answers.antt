@@ -1,22 +1,19 @@
 -- `put_range`: five texts, one after another.
 use native.Mathlib.Omega.{arith}
-use Rattle.bench_texts.specs.Texts.{range_text}
-use Rattle.bench_texts.proofs.Decimal.{within}
-use Rattle.bench_texts.proofs.Puts.{puts_then}
+use mathlib.Core.List.{append_assoc}
+use Rattle.bench_texts.specs.Texts.{range_text, space_text}
+use Rattle.bench_texts.proofs.Decimal.{after_text, after_number}
 use Rattle.bench_texts.proofs.put_range.Goals as goal
 
-pub put_text-end_at-requires : goal.put_text-end_at-requires
-put_text-end_at-requires c = omega (arith, within _ c.put_number-space_at.ensures, c.put_text-start_at.ensures.place)
+pub put_text-requires-2 : goal.put_text-requires-2
+put_text-requires-2 c = omega (arith, c.requires, after_text c.args.opening.now c.args.out.now.items c.put_text.ensures, after_number _ c.put_text.new.out.items c.put_number.ensures)
 
-pub put_number-closing_at-requires : goal.put_number-closing_at-requires
-put_number-closing_at-requires c = omega (arith, c.put_text-end_at.ensures.place, within _ c.put_number-space_at.ensures, c.put_text-start_at.ensures.place)
+pub put_number-requires-2 : goal.put_number-requires-2
+put_number-requires-2 c = omega (arith, c.requires, after_text c.args.opening.now c.args.out.now.items c.put_text.ensures, after_number _ c.put_text.new.out.items c.put_number.ensures, after_text space_text c.put_number.new.out.items c.put_text-2.ensures)
 
-pub put_text-requires : goal.put_text-requires
-put_text-requires c = omega (arith, within _ c.put_number-closing_at.ensures, c.put_text-end_at.ensures.place, within _ c.put_number-space_at.ensures, c.put_text-start_at.ensures.place, c.requires)
+pub put_text-requires-3 : goal.put_text-requires-3
+put_text-requires-3 c = omega (arith, c.requires, after_text c.args.opening.now c.args.out.now.items c.put_text.ensures, after_number _ c.put_text.new.out.items c.put_number.ensures, after_text space_text c.put_number.new.out.items c.put_text-2.ensures, after_number _ c.put_text-2.new.out.items c.put_number-2.ensures)
 
 pub returns : goal.returns
 unfolding range_text
-returns c = puts_then (omega arith) c.put_text-start_at.ensures
-    (puts_then (omega arith) c.put_number-space_at.ensures
-    (puts_then (omega (arith, within _ c.put_number-space_at.ensures)) c.put_text-end_at.ensures
-    (puts_then (omega (arith, within _ c.put_number-space_at.ensures)) c.put_number-closing_at.ensures c.put_text.ensures)))
+returns c = rw (c.put_text-3.ensures, c.put_number-2.ensures, c.put_text-2.ensures, c.put_number.ensures, c.put_text.ensures) (simp append_assoc)

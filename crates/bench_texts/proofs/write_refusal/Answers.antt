@@ -1,14 +1,8 @@
 -- `write_refusal`: three texts, one after another.
 use native.Mathlib.Omega.{arith}
-use Rattle.bench_texts.specs.Texts.{refusal_line}
-use Rattle.bench_texts.proofs.Decimal.{within}
-use Rattle.bench_texts.proofs.Puts.{puts_then}
+use Rattle.bench_texts.specs.Texts.{no_text}
+use Rattle.bench_texts.proofs.Decimal.{after_text, after_number}
 use Rattle.bench_texts.proofs.write_refusal.Goals as goal
 
-pub put_text-requires : goal.put_text-requires
-put_text-requires c = omega (arith, within _ c.put_number-closing_at.ensures, c.put_text-number_at.ensures.place)
-
-pub returns : goal.returns
-unfolding refusal_line
-returns c = puts_then (omega arith) c.put_text-number_at.ensures
-    (puts_then (omega arith) c.put_number-closing_at.ensures c.put_text.ensures)
+pub put_text-requires-2 : goal.put_text-requires-2
+put_text-requires-2 c = omega (arith, c.requires, after_text no_text c.args.out.now.items c.put_text.ensures, after_number c.args.number c.put_text.new.out.items c.put_number.ensures)

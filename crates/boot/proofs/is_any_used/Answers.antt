@@ -4,4 +4,4 @@ use Rattle.boot.proofs.Entries.{used_entries}
 use Rattle.boot.proofs.is_any_used.Goals as goal
 
 pub returns : goal.returns
-returns c = c.is_any.ensures ∙ used_entries c.args.list.now (search rules) (search rules)
+returns c = c.contains.ensures.value ∙ used_entries c.args.list.now (search rules) (search rules)

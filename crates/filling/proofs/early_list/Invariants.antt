@@ -5,4 +5,4 @@ use Rattle.model.specs.Store.{early_of}
 use Rattle.filling.proofs.early_list.Given as goal
 
 abbrev pub invariant-loop-i : goal.invariant-loop-i
-invariant-loop-i l = l.slots ≡ early_of (early (take l.i l.range-items))
+invariant-loop-i l = l.slots ≡ early_of (early (take l.i l.ranges))

@@ -5,8 +5,8 @@ use Rattle.framebench.proofs.answer_lines.Given as goal
 
 abbrev pub invariant-loop-part : goal.invariant-loop-part
 invariant-loop-part l = record {
-  ready : ReadyAt (record { bench = l.bench; held = l.held }) l.buffers.line l.buffers.out l.buffers.areas l.buffers.words;
+  ready : ReadyAt l.bench l.buffers.line.items l.buffers.words;
   so_far : List ℕ;
   parted : l.text ≡ so_far ++ l.part-iterator.rest.now;
-  answers : AnswersLines so_far l.fn.reached l.fn.buffers.line l.fn.buffers.areas l.fn.buffers.words (record { bench = l.bench; held = l.held }) l.buffers.line l.buffers.areas l.buffers.words;
+  answers : AnswersLines so_far l.fn.bench l.fn.buffers.line.items l.fn.buffers.words l.bench l.buffers.line.items l.buffers.words;
 }

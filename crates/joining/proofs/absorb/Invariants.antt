@@ -3,4 +3,4 @@ use Rattle.joining.proofs.Joining.{Absorbing}
 use Rattle.joining.proofs.absorb.Given as goal
 
 abbrev pub invariant-loop-other : goal.invariant-loop-other
-invariant-loop-other l = Absorbing l.fn.first l.others l.area l.rest l.other-index
+invariant-loop-other l = Absorbing l.fn.first l.others l.area l.rest.items l.other-index

@@ -1,10 +1,10 @@
 -- `pass`: at each turn the areas passed over are joined, and the others left.
-use Rattle.carving.specs.Ranges.{ranges_in}
+use Rattle.std.proofs.Common.{length}
 use Rattle.joining.proofs.Joining.{Passing}
 use Rattle.joining.proofs.pass.Given as goal
 
-abbrev pub invariant-loop-left : goal.invariant-loop-left
-invariant-loop-left l = Passing (ranges_in l.areas) l.joined l.left
+abbrev pub invariant-loop-first : goal.invariant-loop-first
+invariant-loop-first l = Passing l.fn.areas.items l.joined.items l.left.items
 
-abbrev pub decreases-loop-left : goal.decreases-loop-left
-decreases-loop-left l = l.left.len
+abbrev pub decreases-loop-first : goal.decreases-loop-first
+decreases-loop-first l = length l.left.items

@@ -1,6 +1,5 @@
 -- `pack_list`: at each turn the first i pairs are written.
 use mathlib.Core.Path.{◌∙◌}
-use lib.ListN.{length-set}
 use Rattle.packing.proofs.Turns.{pack_start, pack_turn, pack_end}
 use native.Mathlib.Omega.{arith}
 use Rattle.packing.proofs.pack_list.Goals as goal
@@ -11,8 +10,8 @@ loop-i-init c = record { size = c.requires; packed = pack_start c.args.list.now.
 pub loop-i-preserved : goal.loop-i-preserved
 loop-i-preserved c =
     let v = c.loop-i.invariant in record {
-      size = simp length-set v.size;
-      packed = rw v.packed (pack_turn c.loop-i.i c.args.list.now.starts c.args.list.now.ends c.args.t.now (omega arith) (omega arith) (omega arith));
+      size = omega (arith, v.size, c.put.auto.t);
+      packed = c.put.ensures ∙ rw (v.packed, c.new.ensures) (pack_turn c.loop-i.i c.args.list.now.starts c.args.list.now.ends c.args.t.now (omega arith) (omega arith) (omega arith));
     }
 
 pub returns-clause-words : goal.returns-clause-words

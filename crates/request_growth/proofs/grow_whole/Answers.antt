@@ -12,13 +12,11 @@ returns-in_err-check_growth c =
     let e : c.from_residual.result ≡ Err c.in_err-check_growth.field-0.0 = search rules in
     rw e (growth_refused c.args.h c.args.lists.now c.requires.ruled c.args.asked c.args.asked _ (sym c.check_growth.ensures ∙ c.in_err-check_growth.was))
 
-pub add_reserved_region_to_lists-grown-requires : goal.add_reserved_region_to_lists-grown-requires
+pub add_reserved_region_to_lists-grown-requires-clause-lists_len_bound : goal.add_reserved_region_to_lists-grown-requires-clause-lists_len_bound
 unfolding lists_in
-add_reserved_region_to_lists-grown-requires c =
-    let may-grow : Open (lists_in c.args.h c.args.lists.now) c.args.asked = open_growth _ _ (sym c.check_growth.ensures ∙ c.in_ok-check_growth.was) in record {
-      ruled = c.requires.ruled;
-      lists_len_bound = room_regions_holds (lists_in c.args.h c.args.lists.now) may-grow.room;
-    }
+add_reserved_region_to_lists-grown-requires-clause-lists_len_bound c =
+    let may-grow : Open (lists_in c.args.h c.args.lists.now) c.args.asked = open_growth _ _ (sym c.check_growth.ensures ∙ c.in_ok-check_growth.was) in
+    room_regions_holds (lists_in c.args.h c.args.lists.now) may-grow.room
 
 pub returns : goal.returns
 unfolding lists_in

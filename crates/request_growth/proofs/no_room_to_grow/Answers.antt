@@ -1,14 +1,20 @@
 -- `no_room_to_grow`: the regions first, then the early chunks.
 use native.Mathlib.Omega.{arith}
 use mathlib.Core.Path.{ap, ◌∙◌}
+use mathlib.Core.List.{List}
 use lib.Dec.{leb}
+use lib.ListN.{length}
+use Rattle.entries.specs.Listed.{lists_of}
 use Rattle.entries.specs.Whole.{lists_in, slots_at}
-use Rattle.model.specs.Lists.{bound}
+use Rattle.model.specs.Lists.{Slot, entries, bound}
 use Rattle.entries.specs.declared.Part.{Part}
 use Rattle.request_growth.proofs.Growing.{room_early}
 use Rattle.request_growth.proofs.no_room_to_grow.Goals as goal
 
 pub returns : goal.returns
 unfolding lists_in slots_at
-returns c = ap (leb 32) c.count_in.ensures
-    ∙ room_early (lists_in c.args.h c.args.lists.now) (omega (arith, c.if-bound-regions.false, c.bound-bound.ensures, ap (λ (p : Part). bound p.sorted) c.part.ensures, c.count_in-regions.ensures)) c.if-h.false
+returns c =
+    ap (leb 32) (c.count-2.ensures ∙ ap (λ (s : List Slot). length (entries s)) c.list.ensures.list)
+    ∙ room_early (lists_of c.args.lists)
+    (omega (arith, c.if-bound-count.false, c.bound.ensures, ap (λ (p : Part). bound p.sorted) c.list-regions.ensures.part, c.count.ensures, ap (λ (s : List Slot). length (entries s)) c.list-regions.ensures.list))
+    c.if-lists.false

@@ -4,10 +4,10 @@ use Rattle.run.proofs.Opened.{passed_is, refused_is, passed}
 use Rattle.run.proofs.close_tested.Goals as goal
 
 pub close-requires : goal.close-requires
-close-requires c = c.requires (passed c.args.tested (sym c.is_ok.ensures.value ∙ c.if-is_ok.true))
+close-requires c = c.requires (passed c.args.opened.tested (sym c.is_ok.ensures.value ∙ c.if-is_ok.true))
 
 pub returns-then-is_ok : goal.returns-then-is_ok
-returns-then-is_ok c = c.close.ensures ∙ sym (passed_is c.args.tested (passed c.args.tested (sym c.is_ok.ensures.value ∙ c.if-is_ok.true)) c.args.a.now c.args.h c.args.slots.now)
+returns-then-is_ok c = c.close.ensures ∙ sym (passed_is c.args.opened.tested (passed c.args.opened.tested (sym c.is_ok.ensures.value ∙ c.if-is_ok.true)) c.args.a.now c.args.opened.header c.args.slots.now)
 
 pub returns-else-is_ok : goal.returns-else-is_ok
-returns-else-is_ok c = sym (refused_is c.args.tested (sym c.is_ok.ensures.value ∙ c.if-is_ok.false) c.args.a.now c.args.h c.args.slots.now)
+returns-else-is_ok c = sym (refused_is c.args.opened.tested (sym c.is_ok.ensures.value ∙ c.if-is_ok.false) c.args.a.now c.args.opened.header c.args.slots.now)

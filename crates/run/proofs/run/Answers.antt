@@ -9,6 +9,7 @@ use Rattle.run.specs.declared.RunEnd.{RunEnd}
 use Rattle.run.specs.declared.RunEnd.TheVariants.{Done, Damaged, NoRoom}
 use Rattle.run.specs.Runs.{ran_with, ran_to}
 use Rattle.run_calls.proofs.Sound.{form_in_list}
+use Rattle.run.proofs.Chunks.{chunk_decoded}
 use Rattle.run.proofs.Turns.{stops_done, stops_damaged, stops_full}
 use Rattle.run.proofs.Going.{going_start, going_closes, going_ruled, going_tested, going_kept, going_changed}
 use native.Mathlib.Omega.{arith}
@@ -40,11 +41,11 @@ loop-made-preserved c =
     let room : 5 * c.loop-made.made + 5 ≤ length c.loop-made.answers = omega (arith, c.if-answers-at-lt5.false) in (
       elim c.match-command.branch [
         | in-Keep w ↦
-            rw (w.allocator-is, w.h-is, w.slots-is, w.words-is, w.answers-is, w.held-is)
-            (going_kept s more _ _ c.decode-decoded.ensures c.in-Some.is room w.in-Keep.is w.make_open-done.ensures _ w.put_answer.ensures (omega arith) (omega arith) (omega arith) (omega arith))
+            rw (w.allocator-is, w.opened-is, w.slots-is, w.words-is, w.answers-is, w.held-is)
+            (going_kept s more _ _ (chunk_decoded c.args.areas.now c.args.calls.now c.loop-made.made _ c.as_chunks.ensures.front (omega arith) c.decode-decoded.ensures) c.in-Some.is room w.in-Keep.is w.make_open-done.ensures _ w.put_answer.ensures (omega arith) (omega arith) (omega arith) (omega arith))
         | in-Change w ↦
-            rw (w.allocator-is, w.h-is, w.slots-is, w.words-is, w.answers-is, w.held-is)
-            (going_changed s more _ _ c.decode-decoded.ensures c.in-Some.is room w.in-Change.is _ w.close_tested.ensures w.change_form-called.ensures _ w.put_answer-in-Change.ensures (omega arith) (omega arith) w.take_apart-h.ensures (omega arith))
+            rw (w.allocator-is, w.opened-is, w.slots-is, w.words-is, w.answers-is, w.held-is)
+            (going_changed s more _ _ (chunk_decoded c.args.areas.now c.args.calls.now c.loop-made.made _ c.as_chunks.ensures.front (omega arith) c.decode-decoded.ensures) c.in-Some.is room w.in-Change.is _ w.close_tested.ensures w.change_form-called.ensures _ w.put_answer-in-Change.ensures (omega arith) (omega arith) w.take_apart-opened.ensures (omega arith))
       ],
       c.loop-made.invariant.1,
     )
@@ -61,7 +62,7 @@ returns c =
           let all : length c.args.calls.now / 3 ≡ c.loop-made.made = omega arith in
           stops_done s (omega arith) _ (ap ran (w.ending-is ∙ c.loop-made.invariant.1 ∙ ap (λ (made : ℕ). ending made Done) all) ∙ ap (λ a. ran_to a c.loop-made.made Done) c.close_tested-2.ensures)
       | then-loop-made-test+in_default w ↦
-          stops_damaged s (omega arith) _ w.decode-decoded.ensures w.in_default.is _ (ap ran w.ending-is ∙ ap (λ a. ran_to a c.loop-made.made Damaged) c.close_tested-2.ensures)
+          stops_damaged s (omega arith) _ (chunk_decoded c.args.areas.now c.args.calls.now c.loop-made.made _ w.as_chunks.ensures.front (omega arith) w.decode-decoded.ensures) w.in_default.is _ (ap ran w.ending-is ∙ ap (λ a. ran_to a c.loop-made.made Damaged) c.close_tested-2.ensures)
       | then-loop-made-test+in-Some+then-answers-at-lt5 w ↦
-          stops_full s (omega arith) _ _ w.decode-decoded.ensures w.in-Some.is (omega (arith, w.if-answers-at-lt5.true)) _ (ap ran w.ending-is ∙ ap (λ a. ran_to a c.loop-made.made NoRoom) c.close_tested-2.ensures)
+          stops_full s (omega arith) _ _ (chunk_decoded c.args.areas.now c.args.calls.now c.loop-made.made _ w.as_chunks.ensures.front (omega arith) w.decode-decoded.ensures) w.in-Some.is (omega (arith, w.if-answers-at-lt5.true)) _ (ap ran w.ending-is ∙ ap (λ a. ran_to a c.loop-made.made NoRoom) c.close_tested-2.ensures)
     ]

@@ -2,4 +2,4 @@
 use Rattle.bench_answers.proofs.Bench.begin.Goals as goal
 
 pub returns : goal.returns
-returns c = λ i. record { allocator = c.fresh.ensures i; counts = c.none.ensures i }
+returns c = record { fresh = c.fresh.ensures; none = c.new.ensures }

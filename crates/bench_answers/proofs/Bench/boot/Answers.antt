@@ -1,19 +1,14 @@
--- `boot` lends the words of the areas.
-use native.Mathlib.Omega.{arith}
-use Prim.Native.Nat.{ℕ}
+-- `boot` tells what a boot from the areas answers.
+use mathlib.Core.List.{List}
 use mathlib.Core.Path.{subst}
-use lib.ListN.{take, length-take}
 use Rattle.model.specs.Calls.{boot_call, Gives}
-use Rattle.areas.specs.Areas.{areas_in}
+use Rattle.model.specs.declared.Area.{Area}
 use Rattle.bench_answers.proofs.Replying.{tells}
 use Rattle.bench_answers.proofs.Bench.boot.Goals as goal
 
-pub slice_bounds-init-end : goal.slice_bounds-init-end
-slice_bounds-init-end c = let few = c.requires.collecting.few in
-    simp length-take (omega (arith, c.words_used-used.ensures, few.general_few, few.reserved_few, c.requires.collecting.long))
-
 pub returns : goal.returns
-returns c = let a = c.args in
-    tells (omega arith) c.requires
-    (subst (λ (n : ℕ). Gives (boot_call (areas_in (take n a.areas.now))) a.self.allocator a.words.now c.init.result a.words.now) c.words_used-used.ensures c.init.ensures)
-    c.tell.ensures
+returns c =
+    let a = c.args in
+    tells c.requires.1
+    (subst (λ (xs : List Area). Gives (boot_call xs) a.self.now.allocator a.words.now c.boot_map-booted.result a.words.now) c.as_slice.ensures.value c.boot_map-booted.ensures)
+    c.tell.ensures.bench c.tell.ensures.text

@@ -1,10 +1,13 @@
 -- `collect`: the area stands after the others, or 64 of its kind are there.
-use native.Mathlib.Omega.{arith}
-use Rattle.bench_answers.proofs.Replying.{taken, full}
+use borrow.Author.Rules.{rules}
+use Rattle.bench_texts.specs.Texts.{bad_line}
+use Rattle.bench_answers.proofs.Replying.{taken, full, alone}
 use Rattle.bench_answers.proofs.Bench.collect.Goals as goal
 
-pub returns-in-Some : goal.returns-in-Some
-returns-in-Some c = taken (omega arith) c.requires.0 c.requires.1 _ c.collect.ensures c.in-Some.is c.say.ensures
+pub returns-in-Ok : goal.returns-in-Ok
+returns-in-Ok c =
+    taken c.args.self.now c.args.area c.collect.ensures.few c.in-Ok.ensures.under c.in-Ok.ensures.ok (search rules)
 
-pub returns-in-None : goal.returns-in-None
-returns-in-None c = full (omega arith) c.requires.0 c.requires.1 _ c.collect.ensures c.in-None.is c.say-in-None.ensures
+pub returns-in-Err : goal.returns-in-Err
+returns-in-Err c =
+    full c.args.self.now c.args.area c.collect.ensures.few c.in-Err.ensures.full c.in-Err.ensures.err (alone bad_line c.requires.0 c.put_text.ensures)

@@ -1,13 +1,10 @@
 -- `list`: the lists that are taken apart are the record's.
-use mathlib.Core.Path.{refl}
+use mathlib.Core.Path.{◌∙◌}
 use Rattle.bench_answers.proofs.Opened.{listed_ruled, listed_text}
 use Rattle.bench_answers.proofs.Bench.list.Goals as goal
 
-pub put_lists-len-requires : goal.put_lists-len-requires
-put_lists-len-requires c = record {
-  ruled = listed_ruled _ _ c.requires.ruled c.take_apart-h.ensures c.entries_of-lists.ensures;
-  reply_room_in_bounds = c.requires.reply_room_in_bounds;
-}
+pub lists_of-requires : goal.lists_of-requires
+lists_of-requires c = listed_ruled _ _ c.requires.ruled c.take_apart-h.ensures
 
 pub returns : goal.returns
-returns c = record { bench = refl; text = listed_text _ _ c.requires.ruled c.take_apart-h.ensures c.entries_of-lists.ensures c.put_lists-len.ensures }
+returns c = c.put_lists.ensures ∙ listed_text _ _ c.requires.ruled c.take_apart-h.ensures c.lists_of.result c.lists_of.ensures.header c.lists_of.ensures.entries

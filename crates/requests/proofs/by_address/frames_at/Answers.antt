@@ -17,23 +17,10 @@ returns-in_err-asked c =
     let e : c.from_residual.result ≡ Err c.in_err-asked.field-0.0 = search rules in
     rw e (address_refused c.args.frame c.args.num_frames c.args.h c.args.lists.now c.requires _ (sym c.asked_range.ensures ∙ c.in_err-asked.was))
 
-pub find_in-requires : goal.find_in-requires
-find_in-requires c = record { ruled = c.requires; start_le_end = some_frames c.args.frame c.args.num_frames _ (sym c.asked_range.ensures ∙ c.in_ok-asked.was) }
-
-pub take_in-requires : goal.take_in-requires
+pub take_in-requires-clause-chooses : goal.take_in-requires-clause-chooses
 unfolding lists_in slots_at
-take_in-requires c = record {
-  ruled = c.requires;
-  chooses = search_chooses c.args.h.sorted (lists_in c.args.h c.args.lists.now).reserved_free c.in-Ok.chosen c.in_ok-asked.asked (some_frames c.args.frame c.args.num_frames _ (sym c.asked_range.ensures ∙ c.in_ok-asked.was)) (said_chunks c.in-Ok.chosen _ (sym c.in-Ok.is ∙ c.find_in.ensures));
-}
-
-pub in_general_list-requires : goal.in_general_list-requires
-unfolding lists_in slots_at
-in_general_list-requires c = record {
-  ruled = c.requires;
-  start_le_end = some_frames c.args.frame c.args.num_frames _ (sym c.asked_range.ensures ∙ c.in_ok-asked.was);
-  lists_value = said_not _ (ap (λ (x : Refusal). Err x) (sym c.in-Err-NotFound.field-0-is) ∙ sym c.in-Err-NotFound.is ∙ c.find_in.ensures);
-}
+take_in-requires-clause-chooses c =
+    search_chooses c.args.h.sorted (lists_in c.args.h c.args.lists.now).reserved_free c.in-Ok.chosen c.in_ok-asked.asked (some_frames c.args.frame c.args.num_frames _ (sym c.asked_range.ensures ∙ c.in_ok-asked.was)) (said_chunks c.in-Ok.chosen _ (sym c.in-Ok.is ∙ c.find_in.ensures))
 
 pub grow_tail-requires : goal.grow_tail-requires
 unfolding lists_in slots_at

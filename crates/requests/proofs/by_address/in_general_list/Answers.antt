@@ -6,7 +6,7 @@ use Rattle.entries.specs.Whole.{lists_in, slots_at}
 use Rattle.model.specs.declared.refusals.Refusal.{Refusal}
 use Rattle.request_grants.proofs.Chosen.{search_chooses}
 use Rattle.entries.proofs.Whole.{does_as, does_refuse}
-use Rattle.requests.proofs.Searched.{said_not, said_missing, said_short, said_chunks, general_not, general_missing, general_short, general_chunks}
+use Rattle.requests.proofs.Searched.{said_missing, said_short, said_chunks, general_missing, general_short, general_chunks}
 use Rattle.requests.proofs.by_address.in_general_list.Goals as goal
 
 pub take_in-requires-clause-chooses : goal.take_in-requires-clause-chooses
@@ -17,11 +17,6 @@ take_in-requires-clause-chooses c =
 pub returns-in-Ok : goal.returns-in-Ok
 unfolding lists_in slots_at
 returns-in-Ok c = does_as (general_chunks (lists_in c.args.h c.args.lists.now) c.args.asked c.in-Ok.chosen (said_chunks c.in-Ok.chosen _ (sym c.in-Ok.is ∙ c.find_in.ensures))) c.take_in.ensures
-
-pub returns-in-Err-NotFound : goal.returns-in-Err-NotFound
-unfolding lists_in slots_at
-returns-in-Err-NotFound c =
-    does_as (general_not (lists_in c.args.h c.args.lists.now) c.args.asked (said_not _ (ap (λ (x : Refusal). Err x) (sym c.in-Err-NotFound.field-0-is) ∙ sym c.in-Err-NotFound.is ∙ c.find_in.ensures))) c.grow_whole.ensures
 
 pub returns-in-Err-Missing : goal.returns-in-Err-Missing
 unfolding lists_in slots_at
