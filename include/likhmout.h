@@ -17,8 +17,8 @@
  *   - Each flag of a record, `sorted` and `used`, is 0 or 1. Any other byte is no record at all, and what a call does then is open;
  *     likhmout_has_valid_flags tests it. Every other value may be anything, and is refused with 11 where it breaks the list rules.
  *     likhmout_fresh makes a record to begin with; a record of zeros is none, since an unused slot holds [1,0].
- *   - There is stack enough. Measured (bench/stack), not proved: up to 25 KB for a run, 16 KB for a boot, 13 KB for a request or a return,
- *     12 KB for a sort, 6 KB for any other call.
+ *   - There is stack enough. Measured (bench/stack), not proved: up to 27 KB for a run, 18 KB for a boot, 13 KB for a request or a return,
+ *     12 KB for a sort, 4 KB for any other call.
  */
 #ifndef LIKHMOUT_H
 #define LIKHMOUT_H
