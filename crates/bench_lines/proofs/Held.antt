@@ -15,10 +15,10 @@ use Rattle.bench_lines.specs.Lines.{held}
 use Rattle.bench_lines.proofs.Reading.{too_long}
 
 -- n of the bytes that come are put behind those that are held: all of them, or as many as have room
-pub as_many : (line more : List ℕ) (room n : ℕ) → room + length line ≡ 129 → n ≡ min (length more) room → line ++ take n more ≡ held (line ++ more)
-as_many line more room n all is =
+pub as_many : {size : ℕ} (line more : List ℕ) (room n : ℕ) → room + length line ≡ size → n ≡ min (length more) room → line ++ take n more ≡ take size (line ++ more)
+as_many {size} line more room n all is =
     let same : min room (length more) ≡ n = omega (arith, is) in
-    let whole : length line + room ≡ 129 = omega (arith, all) in
+    let whole : length line + room ≡ size = omega (arith, all) in
     ap (λ (k : ℕ). line ++ take k more) (sym same) ∙ ap (λ (t : List ℕ). line ++ t) (take_min room more)
     ∙ sym (take-append-add line more room) ∙ ap (λ (k : ℕ). take k (line ++ more)) whole
 

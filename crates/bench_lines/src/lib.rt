@@ -1,10 +1,9 @@
 // The lines that `framebench` reads, and the commands that they are: document 01, "The bench program".
 #![tactic(auto)]
 
-ghost use Rattle.std.specs.Prelude.{◌≡◌, ◌++◌};
+ghost use Rattle.std.specs.Prelude.{◌≡◌, ◌++◌, take};
 ghost use Rattle.lines.specs.Words.{words_in};
 ghost use Rattle.bench_lines.specs.Commands as command;
-ghost use Rattle.bench_lines.specs.Lines.{held};
 
 use arrayvec::ArrayVec;
 use memory_structs::FrameRange;
@@ -22,12 +21,12 @@ pub enum Command {
     Lists,
 }
 
-// What is held of a line: with a byte more than a line may have, a line above 128 is told from the others, however long it is.
+// What is held of a line (`held`): with a byte more than a line may have, a line above 128 is told from the others, however long it is.
 pub type Held = ArrayVec<u8, 129>;
 
 // Takes more bytes of a line. What has no room is left out.
-pub fn hold(line: &mut Held, more: &[u8])
-    ensures { line.new.items ≡ held (line.old.items ++ more.now) }
+pub fn hold<const N: usize>(line: &mut ArrayVec<u8, N>, more: &[u8])
+    ensures { line.new.items ≡ take N (line.old.items ++ more.now) }
 {
     let taken = more.len().min(line.remaining_capacity());
     // As many as have room, so that this does not fail.

@@ -4,17 +4,17 @@
 ghost use Rattle.std.specs.Prelude.{◌≡◌, ◌+◌, ◌≤◌, ◌++◌, length};
 ghost use Rattle.model.specs.Lists.{entries};
 ghost use Rattle.entries.specs.Listed.{list_slots, lists_of};
-ghost use Rattle.bench_texts.specs.Texts.{out_room};
 ghost use Rattle.bench_lists.specs.ListLines.{entry_room, entries_room, line_room, entry_text, entries_text, name_text, line_of};
 
-use bench_texts::{Out, put_range, put_text};
+use arrayvec::ArrayVec;
+use bench_texts::{put_range, put_text};
 use entries::{FourLists, List, WhichList};
 use memory_structs::FrameRange;
 
 // Puts the line after what is there.
 #[tactic(auto, using(crate::proofs::Going::name_length))]
-pub fn put_list(out: &mut Out, lists: FourLists, which: WhichList)
-    requires { length out.old.items + line_room ≤ out_room }
+pub fn put_list<const N: usize>(out: &mut ArrayVec<u8, N>, lists: FourLists, which: WhichList)
+    requires { length out.old.items + line_room ≤ N }
     ensures { out.new.items ≡ out.old.items ++ line_of which (lists_of lists.entry) }
 {
     put_name(out, which);
@@ -23,8 +23,8 @@ pub fn put_list(out: &mut Out, lists: FourLists, which: WhichList)
 }
 
 #[tactic(auto, unfolding(crate::specs::ListLines::name_text))]
-fn put_name(out: &mut Out, which: WhichList)
-    requires { length out.old.items + line_room ≤ out_room }
+fn put_name<const N: usize>(out: &mut ArrayVec<u8, N>, which: WhichList)
+    requires { length out.old.items + line_room ≤ N }
     ensures { out.new.items ≡ out.old.items ++ name_text which }
 {
     match which {
@@ -36,8 +36,8 @@ fn put_name(out: &mut Out, which: WhichList)
 }
 
 // The pairs of a table, or the slots that are used: a slot that is not used holds the empty range.
-fn put_entries(out: &mut Out, list: List)
-    requires { length out.old.items + entries_room ≤ out_room }
+fn put_entries<const N: usize>(out: &mut ArrayVec<u8, N>, list: List)
+    requires { length out.old.items + entries_room ≤ N }
     ensures { out.new.items ≡ out.old.items ++ entries_text (entries (list_slots list.entry)) }
 {
     for i in 0..slots_in(list) {
@@ -56,8 +56,8 @@ fn slots_in(list: List) -> usize
     if list.part.sorted { list.part.len } else { 32 }
 }
 
-fn put_entry(out: &mut Out, entry: FrameRange)
-    requires { length out.old.items + entry_room ≤ out_room }
+fn put_entry<const N: usize>(out: &mut ArrayVec<u8, N>, entry: FrameRange)
+    requires { length out.old.items + entry_room ≤ N }
     ensures { out.new.items ≡ out.old.items ++ entry_text entry }
 {
     put_range(out, b" (", entry, b")");

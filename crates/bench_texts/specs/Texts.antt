@@ -4,11 +4,6 @@ use Rattle.memory_structs.specs.Range.{is_empty}
 use Rattle.memory_structs.specs.declared.range.FrameRange.{FrameRange}
 use Rattle.model.specs.declared.Answer.{Answer}
 
--- how many bytes are printed for one line at most: four lists, a line each, with 17 bytes at most for the name, 44 for each of 512
--- entries, and 2 for the end
-abbrev pub out_room : ℕ
-out_room = 90188
-
 -- a number in k decimal digits at most: below ten its digit, where 48 is "0"; else its tenth part's digits and its last one
 unfoldable pub digits_text : ℕ → ℕ → List ℕ
 digits_text zero n = []

@@ -2,7 +2,7 @@
 // programs that read lines. Lent words and no `Vec`: reading cannot fail for want of memory, and a clause names each word.
 #![tactic(auto)]
 
-ghost use Rattle.std.specs.Prelude.{◌≡◌, ◌≤◌, length, IfOk};
+ghost use Rattle.std.specs.Prelude.{◌≡◌, ◌≤◌, length, IfOk, IfErr};
 ghost use Rattle.lines.specs.Words as words;
 ghost use Rattle.lines.specs.declared.Layout.TheVariants.{Numbers, Areas};
 
@@ -27,6 +27,7 @@ pub struct Unread {
 pub fn read_numbers(text: &[u8], numbers: &mut [u64]) -> Result<usize, Unread>
     ensures reads { words.Reads (words.read_after Numbers text.now numbers.old) result numbers.new }
     ensures len_in_bounds { IfOk result (λ len. len ≤ length numbers.new) }
+    ensures put_in_bounds { IfErr result (λ unread. unread.put ≤ length numbers.new) }
 {
     read_words(text, Layout::Numbers, numbers)
 }
@@ -35,6 +36,7 @@ pub fn read_numbers(text: &[u8], numbers: &mut [u64]) -> Result<usize, Unread>
 pub fn read_areas(text: &[u8], numbers: &mut [u64]) -> Result<usize, Unread>
     ensures reads { words.Reads (words.whole_areas (words.read_after Areas text.now numbers.old)) result numbers.new }
     ensures len_in_bounds { IfOk result (λ len. len ≤ length numbers.new) }
+    ensures put_in_bounds { IfErr result (λ unread. unread.put ≤ length numbers.new) }
 {
     let len = read_words(text, Layout::Areas, numbers)?;
     if len % 3 != 0 {
@@ -47,6 +49,7 @@ pub fn read_areas(text: &[u8], numbers: &mut [u64]) -> Result<usize, Unread>
 fn read_words(text: &[u8], layout: Layout, numbers: &mut [u64]) -> Result<usize, Unread>
     ensures reads { words.Reads (words.read_after layout text.now numbers.old) result numbers.new }
     ensures len_in_bounds { IfOk result (λ len. len ≤ length numbers.new) }
+    ensures put_in_bounds { IfErr result (λ unread. unread.put ≤ length numbers.new) }
 {
     let [_space, words @ ..] = text else {
         return Ok(0);

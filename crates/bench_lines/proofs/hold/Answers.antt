@@ -5,7 +5,7 @@ use Rattle.bench_lines.proofs.Held.{as_many, done}
 use Rattle.bench_lines.proofs.hold.Goals as goal
 
 pub returns : goal.returns
-returns c =
+returns g c =
     let a = c.args in
     let e = c.try_extend_from_slice.ensures in
     done c.try_extend_from_slice.result (e.variant.1 (omega (arith, length-take c.min-taken.result a.more.now, c.min-taken.ensures, c.remaining_capacity.ensures))) e.ok

@@ -14,17 +14,17 @@ use Rattle.bench_lists.proofs.put_entries.Goals as goal
 use Rattle.bench_lists.proofs.put_entries.Goals.{then-not-is_empty, else-not-is_empty}
 
 pub loop-i-init : goal.loop-i-init
-loop-i-init c = going_starts _ c.args.out.now.items
+loop-i-init g c = going_starts _ c.args.out.now.items
 
 pub entry-slot-requires : goal.entry-slot-requires
-entry-slot-requires c = omega (arith, c.slots_in-i-end.ensures)
+entry-slot-requires g c = omega (arith, c.slots_in-i-end.ensures)
 
 pub put_entry-requires : goal.put_entry-requires
-put_entry-requires c = let few : c.loop-i.i < 512 = omega (arith, slots_few c.args.list.tidy.part, c.slots_in-i-end.ensures) in
+put_entry-requires g c = let few : c.loop-i.i < 512 = omega (arith, slots_few c.args.list.tidy.part, c.slots_in-i-end.ensures) in
     omega (arith, few, c.requires, c.loop-i.invariant.size)
 
 pub loop-i-preserved : goal.loop-i-preserved
-loop-i-preserved c =
+loop-i-preserved g c =
     let v = c.loop-i in
     let s : List Slot = list_slots c.args.list in
     let more : v.i < length s = omega (arith, c.slots_in-i-end.ensures) in
@@ -45,5 +45,5 @@ loop-i-preserved c =
 
 pub returns : goal.returns
 unfolding entries
-returns c = let v = c.loop-i in
+returns g c = let v = c.loop-i in
     going_ends v.invariant (ap entries (drop_of_length-le (list_slots c.args.list) {i = v.i} (omega (arith, c.slots_in-i-end.ensures))))

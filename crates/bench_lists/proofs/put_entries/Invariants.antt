@@ -6,4 +6,4 @@ use Rattle.bench_lists.proofs.Going.{Going}
 use Rattle.bench_lists.proofs.put_entries.Given as goal
 
 abbrev pub invariant-loop-i : goal.invariant-loop-i
-invariant-loop-i l = Going (entries (list_slots l.list)) (entries (drop l.i (list_slots l.list))) l.initial.out.items l.i l.out.items
+invariant-loop-i g l = Going (entries (list_slots l.list)) (entries (drop l.i (list_slots l.list))) l.initial.out.items l.i l.out.items

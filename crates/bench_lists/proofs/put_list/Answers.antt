@@ -7,10 +7,10 @@ use Rattle.bench_lists.proofs.Going.{own_entries, own_within, name_length}
 use Rattle.bench_lists.proofs.put_list.Goals as goal
 
 pub put_entries-requires : goal.put_entries-requires
-put_entries-requires c = omega (arith, c.requires, after_text (name_text c.args.which) c.args.out.now.items c.put_name.ensures, name_length c.args.which)
+put_entries-requires g c = omega (arith, c.requires, after_text (name_text c.args.which) c.args.out.now.items c.put_name.ensures, name_length c.args.which)
 
 pub put_text-requires : goal.put_text-requires
-put_text-requires c =
+put_text-requires g c =
     omega (
       arith,
       c.requires,
@@ -21,5 +21,5 @@ put_text-requires c =
 
 pub returns : goal.returns
 unfolding list_line
-returns c =
+returns g c =
     rw (c.put_text.ensures, own_entries c.args.lists c.args.which c.list.ensures.list c.put_name.new.out.items c.put_entries.ensures, c.put_name.ensures) (simp append_assoc)

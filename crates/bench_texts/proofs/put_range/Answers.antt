@@ -6,14 +6,14 @@ use Rattle.bench_texts.proofs.Decimal.{after_text, after_number}
 use Rattle.bench_texts.proofs.put_range.Goals as goal
 
 pub put_text-requires-2 : goal.put_text-requires-2
-put_text-requires-2 c = omega (arith, c.requires, after_text c.args.opening.now c.args.out.now.items c.put_text.ensures, after_number _ c.put_text.new.out.items c.put_number.ensures)
+put_text-requires-2 g c = omega (arith, c.requires, after_text c.args.opening.now c.args.out.now.items c.put_text.ensures, after_number _ c.put_text.new.out.items c.put_number.ensures)
 
 pub put_number-requires-2 : goal.put_number-requires-2
-put_number-requires-2 c = omega (arith, c.requires, after_text c.args.opening.now c.args.out.now.items c.put_text.ensures, after_number _ c.put_text.new.out.items c.put_number.ensures, after_text space_text c.put_number.new.out.items c.put_text-2.ensures)
+put_number-requires-2 g c = omega (arith, c.requires, after_text c.args.opening.now c.args.out.now.items c.put_text.ensures, after_number _ c.put_text.new.out.items c.put_number.ensures, after_text space_text c.put_number.new.out.items c.put_text-2.ensures)
 
 pub put_text-requires-3 : goal.put_text-requires-3
-put_text-requires-3 c = omega (arith, c.requires, after_text c.args.opening.now c.args.out.now.items c.put_text.ensures, after_number _ c.put_text.new.out.items c.put_number.ensures, after_text space_text c.put_number.new.out.items c.put_text-2.ensures, after_number _ c.put_text-2.new.out.items c.put_number-2.ensures)
+put_text-requires-3 g c = omega (arith, c.requires, after_text c.args.opening.now c.args.out.now.items c.put_text.ensures, after_number _ c.put_text.new.out.items c.put_number.ensures, after_text space_text c.put_number.new.out.items c.put_text-2.ensures, after_number _ c.put_text-2.new.out.items c.put_number-2.ensures)
 
 pub returns : goal.returns
 unfolding range_text
-returns c = rw (c.put_text-3.ensures, c.put_number-2.ensures, c.put_text-2.ensures, c.put_number.ensures, c.put_text.ensures) (simp append_assoc)
+returns g c = rw (c.put_text-3.ensures, c.put_number-2.ensures, c.put_text-2.ensures, c.put_number.ensures, c.put_text.ensures) (simp append_assoc)
