@@ -41,28 +41,38 @@ From early to sorted form. Ours writes all 4,096 words. As for boots, b is what 
 
 The Rust has none: c is a plain Rust walk over the same words.
 """,
+    "new_regions": """## Growth
+
+A request by address for frames that no list knows: they become a reserved region. A region stays, so 16 growths one after another are timed,
+and before them both sides get back the lists that they began with, which isn't timed. Size: the entries of each list before the first of
+the 16. The time is that of the request alone; the frames are kept. As for boots, b is what the growths add to a run. In the middle and below
+every region, the pairs above move up. The missing tail is one frame above the highest reserved chunk, which is granted with it.
+""",
     "rules": """## The test of the rules by itself
 
-d is the plain pass alone.
+d is the plain pass alone. In early form the workspace isn't read.
 """,
 }
 
 AIMS = """## Aims
 
 Through `run` a call takes no longer than the Rust's (b/c at most 1), and a checked call takes at most 1.25 times the plain pass and the
-Rust's call (a/d). Of requests and returns, boots, the sort and the held list; the Rust has no held list, and the walk stands for it.
+Rust's call (a/d). Of requests and returns, boots, the sort and the held list; the Rust has no held list, and the walk stands for it. Growth
+has an aim of its own, in its section.
 """
 
 LEFT_OVER = """Why these are missed; what has been mended is in [DECISIONS.md](DECISIONS.md), "Speed":
 
 - **A whole chunk leaves the middle or the bottom of a long table.** A table is an array in the lent words, so the pairs above move, up
   to 8 KB each way. The Rust has a tree, whose nodes need a heap.
-- **Early form.** A single call takes the record's slots apart and writes them back, and copies 11 KB with the record; a held list puts the
-  slots in order first. It doesn't grow: a list has 32 slots. Early form is for the calls between boot and sort.
-- **A checked call on short lists.** Where the test is short, the copies of the record show: in, to the call, out, back.
-- **A boot of two areas.** It makes a record whatever the areas are, 18 KB of copies of it and of lists of 32 ranges. With 32 areas and more
+- **Early form.** A call goes over 32 slots, used or not, where the Rust's ends at the first that helps: a return asks both free lists for its frames
+  (19), which the Rust doesn't. A single call on short lists sees each of the 128 slots four times: tested, packed, put in order, written back;
+  the plain pass sees each once. A held list puts the slots in order first. Early form doesn't grow, and is for the calls between boot and sort.
+- **A boot of two areas.** It makes a record whatever the areas are, and hands on lists of 32 ranges, 6 KB of copies. With 32 areas and more
   a boot takes as long as the Rust's or less.
 - **A sort of few entries.** It clears all four tables, 32 KB.
+- **The test on full tables** takes 1.17 of the plain pass here. The same archive on the same lists in a C program takes 6.7 µs, 0.93 of it, so that this
+  hangs on where the linker puts the loops. Where the workspace lies makes no difference.
 - **A held list of few runs in sorted form.** A call of a run reads three words and writes five, and the plain walk does neither.
 """
 
@@ -98,10 +108,13 @@ def ratio(times, above, below):
     return f"{times[above] / times[below]:.2f}" if above in times and below in times else ""
 
 
-def aim(rows, above, below, most):
+AIMED_AT = ("requests", "boot", "sort", "held")
+
+
+def aim(rows, above, below, most, tables=AIMED_AT):
     """How many rows meet the aim, and those that don't."""
     found = [(case, form, size, times[above] / times[below]) for (table, case, form, size), times in rows.items()
-             if table in ("requests", "boot", "sort", "held") and above in times and below in times]
+             if table in tables and above in times and below in times]
     missed = [f"{case}, {form} form, {size}: {by:.2f}" for case, form, size, by in found if round(by, 2) > most]
     return len(found) - len(missed), len(found), missed
 
@@ -116,6 +129,15 @@ def aims(rows):
     whole(rows)
     print()
     print(LEFT_OVER)
+
+
+def growth_aim(rows):
+    met, total, missed = aim(rows, "run", "rust", 1.5, ("new_regions",))
+    print(f"Aim: b/c at most 1.5. Met in {met} of {total} rows." + (" Missed:" if missed else "") + "\n")
+    for row in missed:
+        print(f"- {row}")
+    if missed:
+        print()
 
 
 def whole(rows):
@@ -147,6 +169,8 @@ def page(facts, rows):
         print(text)
         lines(rows, table)
         print()
+        if table == "new_regions":
+            growth_aim(rows)
     aims(rows)
     print(GROWTH)
     lines(rows, "growth")

@@ -8,17 +8,16 @@
  * 4,096 words are the allocator; the program owns both, and hands both to every call. Nothing else is kept between calls: two
  * records with a workspace each are two allocators.
  *
- * Every call ends, on any numbers and any words. A refusal returns its number, the range [1,0], and 0 for frame and count except in 15;
- * record, workspace and buffers keep every value. What C must see to, since no proof covers C:
+ * Every call ends, on any record, any numbers and any words. A refusal returns its number, the range [1,0], and 0 for frame and count
+ * except in 15; record, workspace and buffers keep every value. Any byte may stand at a flag of a record, `sorted` and `used`: 1 is set,
+ * 0 is not, and another value is refused with 11, as any other number that breaks the list rules. What C must see to, since no proof
+ * covers C:
  *
  *   - Pointers are valid, aligned and not null, also where the length beside them is 0. A length counts 64-bit words.
  *   - What one call is lent doesn't overlap, unless the call only reads it.
  *   - No other call has the same record or the same workspace at the same time: a lock is the program's.
- *   - Each flag of a record, `sorted` and `used`, is 0 or 1. Any other byte is no record at all, and what a call does then is open;
- *     likhmout_has_valid_flags tests it. Every other value may be anything, and is refused with 11 where it breaks the list rules.
- *     likhmout_fresh makes a record to begin with; a record of zeros is none, since an unused slot holds [1,0].
- *   - There is stack enough. Measured (bench/stack), not proved: up to 27 KB for a run, 18 KB for a boot, 13 KB for a request or a return,
- *     12 KB for a sort, 4 KB for any other call.
+ *   - A record begins as likhmout_fresh makes it. One of zeros is refused with 11, since an unused slot holds [1,0].
+ *   - There is stack enough. Measured (bench/stack), not proved: up to 12 KB for a run, 9 KB for a boot, 5 KB for any other call.
  */
 #ifndef LIKHMOUT_H
 #define LIKHMOUT_H
@@ -181,21 +180,9 @@ LIKHMOUT_ASSERT(run_counts_end, offsetof(likhmout_run_counts, end) == 8);
 /* A record in early form with every slot unused. */
 likhmout_frame_allocator likhmout_fresh(void);
 
-/* The test whose number a call of the allocator answers before any other, but for the length of the held list's buffer: 0, 3 or 11. */
+/* The test whose number a call of the allocator answers before any other, but for the length of the held list's buffer: 0, 3 or 11. Also
+ * for a record that comes from elsewhere, as from a chip that kept it. */
 uint64_t likhmout_check(const likhmout_frame_allocator *a, const uint64_t *words, size_t words_len);
-
-/* Whether the flags are 0 or 1, as the library takes them to be. For a record that comes from elsewhere, as from a chip that kept it. */
-static inline int likhmout_has_valid_flags(const likhmout_frame_allocator *a)
-{
-    const likhmout_early_list *lists[4] = {
-        &a->general_free, &a->reserved_free, &a->general_regions, &a->reserved_regions,
-    };
-    uint8_t all = a->sorted;
-    for (size_t list = 0; list < 4; list++)
-        for (size_t slot = 0; slot < LIKHMOUT_SLOTS; slot++)
-            all = (uint8_t)(all | lists[list]->used[slot]);
-    return all <= 1;
-}
 
 /* ---- boot and sort */
 

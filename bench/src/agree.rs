@@ -4,14 +4,17 @@ use crate::record::{PAIRS, PART, SLOTS, WORDS};
 use crate::world::{Form, World};
 use crate::{ours, plain};
 
-/// One word, slot or length changed at random, many times over.
+/// Set, not set, and bytes that are neither.
+const FLAGS: [u8; 6] = [0, 1, 0, 1, 2, 255];
+
+/// One word, slot, flag or length changed at random, many times over.
 pub fn compare_tests() {
     let mut seed = 0x2545_f491_4f6c_dd1d_u64;
     for (form, entries) in [(Form::Early, 0), (Form::Early, SLOTS), (Form::Sorted, 0), (Form::Sorted, 32), (Form::Sorted, PAIRS)] {
         let world = World::new(form, entries);
         for _ in 0..20_000 {
             let changed = changed(&world, &mut seed);
-            let (ours, theirs) = (ours::check(&changed), plain::check(&changed.record, &changed.words));
+            let (ours, theirs) = (ours::check(&changed.record, &changed.words), plain::check(&changed.record, &changed.words));
             assert_eq!(ours, theirs, "the two tests answer differently");
         }
     }
@@ -31,9 +34,9 @@ fn changed(world: &World, seed: &mut u64) -> World {
     match next(8) {
         0 => w.record.lists[list].starts[next(SLOTS)] = value,
         1 => w.record.lists[list].ends[next(SLOTS)] = value,
-        2 => w.record.lists[list].used[next(SLOTS)] ^= true,
+        2 => w.record.lists[list].used[next(SLOTS)] = FLAGS[next(FLAGS.len())],
         3 => w.record.lens[list] = [0, 1, len.wrapping_sub(1), len + 1, PAIRS, PAIRS + 1, usize::MAX][next(7)],
-        4 => w.record.sorted ^= true,
+        4 => w.record.sorted = FLAGS[next(FLAGS.len())],
         5 => w.words[next(WORDS)] = value,
         _ => {
             let word = &mut w.words[list * PART + next(2 * len + 2) % PART];

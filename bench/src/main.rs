@@ -2,6 +2,7 @@
 //! the case, the lists' form, a size, whose calls they are, and nanoseconds for a call; `report.py` makes a page of them.
 
 mod agree;
+mod growth;
 mod others;
 mod ours;
 mod plain;
@@ -14,7 +15,8 @@ mod world;
 fn main() {
     agree::compare_tests();
     requests::table();
-    requests::growth();
+    requests::as_lists_grow();
+    growth::table();
     others::boots();
     others::sorts();
     others::held_lists();

@@ -129,14 +129,38 @@ fn walk(w: &World, buffer: &mut [u64]) {
     black_box(plain::held_runs(black_box(&w.record), black_box(&w.words), buffer));
 }
 
-/// The test of the rules by itself, beside the plain pass.
+/// The test of the rules by itself, beside the plain pass. In sorted form with a workspace whose address is a multiple of 64, and with one
+/// that lies 8 bytes higher; early form doesn't read it.
 pub fn rules() {
-    for (form, size) in [(Form::Early, 0), (Form::Early, SLOTS), (Form::Sorted, 0), (Form::Sorted, 32), (Form::Sorted, 256), (Form::Sorted, PAIRS)] {
-        let row = Row { table: "rules", case: "the test of the rules", form: form.name(), size };
-        let world = World::new(form, size);
-        row.time(&[Side::Single, Side::RustTested], 200, 100, |side| match side {
-            Side::Single => timed(|| (0..100).for_each(|_| assert_eq!(ours::check(black_box(&world)), 0))),
-            _ => timed(|| (0..100).for_each(|_| test(&world))),
-        });
+    for size in [0, SLOTS] {
+        time_rules("the test of the rules", Form::Early, size, 0);
     }
+    for size in [0, 32, 256, PAIRS] {
+        time_rules("the test of the rules, words at a multiple of 64 bytes", Form::Sorted, size, 0);
+        time_rules("the test of the rules, words 8 bytes above one", Form::Sorted, size, 8);
+    }
+}
+
+fn time_rules(case: &'static str, form: Form, size: usize, above: usize) {
+    let row = Row { table: "rules", case, form: form.name(), size };
+    let World { record, words } = World::new(form, size);
+    let mut room = Vec::new();
+    let words = placed(&words, above, &mut room);
+    const CALLS: usize = 20;
+    row.time(&[Side::Single, Side::RustTested], 1_000, CALLS, |side| match side {
+        Side::Single => timed(|| (0..CALLS).for_each(|_| assert_eq!(ours::check(black_box(&record), black_box(words)), 0))),
+        _ => timed(|| (0..CALLS).for_each(|_| assert_eq!(plain::check(black_box(&record), black_box(words)), 0))),
+    });
+}
+
+/// The same words at an address so many bytes, a multiple of 8, above a multiple of 64.
+fn placed<'a>(words: &[u64], above: usize, room: &'a mut Vec<u64>) -> &'a [u64] {
+    const LINE: usize = 64;
+    room.resize(words.len() + 2 * LINE / 8, 0);
+    let past = room.as_ptr() as usize % LINE;
+    let from = (LINE - past + above) / 8;
+    let placed = &mut room[from..from + words.len()];
+    placed.copy_from_slice(words);
+    assert_eq!(placed.as_ptr() as usize % LINE, above);
+    placed
 }

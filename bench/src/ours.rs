@@ -52,8 +52,8 @@ pub fn held_list(w: &World, buffer: &mut [u64]) -> Answer {
     unsafe { likhmout_held_list(&w.record, w.words.as_ptr(), w.words.len(), buffer.as_mut_ptr(), buffer.len()) }
 }
 
-pub fn check(w: &World) -> u64 {
-    unsafe { likhmout_check(&w.record, w.words.as_ptr(), w.words.len()) }
+pub fn check(a: &FrameAllocator, words: &[u64]) -> u64 {
+    unsafe { likhmout_check(a, words.as_ptr(), words.len()) }
 }
 
 /// A list of calls: three words each, and five to an answer (docs/RUN.md).

@@ -16,13 +16,13 @@ pub const RESERVED_REGIONS: usize = 3;
 pub struct EarlyList {
     pub starts: [u64; SLOTS],
     pub ends: [u64; SLOTS],
-    pub used: [bool; SLOTS],
+    pub used: [u8; SLOTS],
 }
 
 #[repr(C)]
 #[derive(Clone, Copy, PartialEq, Debug)]
 pub struct FrameAllocator {
-    pub sorted: bool,
+    pub sorted: u8,
     pub lists: [EarlyList; 4],
     pub lens: [usize; 4],
 }
@@ -36,6 +36,6 @@ pub struct Answer {
     pub count: u64,
 }
 
-const UNUSED: EarlyList = EarlyList { starts: [1; SLOTS], ends: [0; SLOTS], used: [false; SLOTS] };
+const UNUSED: EarlyList = EarlyList { starts: [1; SLOTS], ends: [0; SLOTS], used: [0; SLOTS] };
 
-pub const FRESH: FrameAllocator = FrameAllocator { sorted: false, lists: [UNUSED; 4], lens: [0; 4] };
+pub const FRESH: FrameAllocator = FrameAllocator { sorted: 0, lists: [UNUSED; 4], lens: [0; 4] };

@@ -66,7 +66,7 @@ pub fn table() {
 }
 
 /// The cost as the lists grow, in sorted form: by count and by address, where it is least and where it is most.
-pub fn growth() {
+pub fn as_lists_grow() {
     for case in [&CASES[0], &CASES[2], &CASES[3], &CASES[5]] {
         for entries in [1, 2, 4, 8, 16, 32, 64, 128, 256, PAIRS - 1] {
             case.time("growth", entries);

@@ -9,7 +9,7 @@ use memory_structs::{Frame, FrameRange, PhysicalAddress};
 
 /// The Rust's lists become those of the world.
 pub fn put(world: &World) {
-    FreeFrames::window_empty_lists(world.record.sorted);
+    FreeFrames::window_empty_lists(world.record.sorted == 1);
     let ranges = |list| world.entries(list).into_iter().map(|(start, end)| range(start, end)).collect();
     FreeFrames::window_insert([0, 1, 2, 3].map(ranges));
 }

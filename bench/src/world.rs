@@ -42,8 +42,21 @@ impl World {
 
     /// Each list has so many entries.
     pub fn new(form: Form, entries: usize) -> World {
+        World::with(form, entries, entry)
+    }
+
+    /// The same in sorted form, with so many frames more between two of the entries: those from one on lie higher.
+    pub fn with_gap(entries: usize, below: usize, frames: u64) -> World {
+        World::with(Form::Sorted, entries, |list, i| {
+            let (start, end) = entry(list, i);
+            let higher = if i < below { 0 } else { frames };
+            (start + higher, end + higher)
+        })
+    }
+
+    fn with(form: Form, entries: usize, entry: impl Fn(usize, usize) -> (u64, u64)) -> World {
         let mut world = World::fresh();
-        world.record.sorted = form == Form::Sorted;
+        world.record.sorted = (form == Form::Sorted).into();
         for list in 0..4 {
             for i in 0..entries {
                 world.put(form, list, i, entry(list, i));
@@ -56,7 +69,7 @@ impl World {
         match form {
             Form::Early => {
                 let slots = &mut self.record.lists[list];
-                (slots.starts[i], slots.ends[i], slots.used[i]) = (start, end, true);
+                (slots.starts[i], slots.ends[i], slots.used[i]) = (start, end, 1);
             }
             Form::Sorted => {
                 let word = list * PART + 2 * i;
@@ -68,12 +81,12 @@ impl World {
 
     /// The entries of a list in stored order.
     pub fn entries(&self, list: usize) -> Vec<(u64, u64)> {
-        if self.record.sorted {
+        if self.record.sorted == 1 {
             let part = &self.words[list * PART..];
             return (0..self.record.lens[list]).map(|i| (part[2 * i], part[2 * i + 1])).collect();
         }
         let slots = &self.record.lists[list];
-        let used = (0..slots.used.len()).filter(|i| slots.used[*i]);
+        let used = (0..slots.used.len()).filter(|i| slots.used[*i] == 1);
         used.map(|i| (slots.starts[i], slots.ends[i])).collect()
     }
 }

@@ -132,14 +132,6 @@ static void expect_answers(likhmout_frame_allocator *a)
     expect("run: no third answer", answers[2 * LIKHMOUT_ANSWER_WORDS], 0);
 }
 
-static void expect_flags(void)
-{
-    likhmout_frame_allocator a = likhmout_fresh();
-    expect("flags of a fresh record", (uint64_t)likhmout_has_valid_flags(&a), 1);
-    a.reserved_regions.used[LIKHMOUT_SLOTS - 1] = 2;
-    expect("flags with one that is 2", (uint64_t)likhmout_has_valid_flags(&a), 0);
-}
-
 static void expect_ranges(void)
 {
     uint64_t out[7] = { MARK, MARK, MARK, MARK, MARK, MARK, MARK };
@@ -162,7 +154,6 @@ int main(void)
     expect_answers(&guarded.record);
     expect("the mark before the record", guarded.before, MARK);
     expect("the mark after the record", guarded.after, MARK);
-    expect_flags();
     expect_ranges();
     printf("layout: %s\n", faults == 0 ? "ok" : "differs");
     return faults == 0 ? 0 : 1;

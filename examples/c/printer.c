@@ -87,8 +87,11 @@ static void damage(void)
     frames.general_free_len += 1;
     show("page builder: 1 frame, a length too large", pages(1));
     frames.general_free_len -= 1;
+    frames.sorted = 2;
+    show("page builder: 1 frame, a flag that is 2", pages(1));
+    frames.sorted = 1;
     show("page builder: 1 frame, a word too few", likhmout_allocate_frames(&frames, workspace, LIKHMOUT_WORKSPACE_WORDS - 1, 1));
-    show("page builder: 1 frame, both put right", pages(1));
+    show("page builder: 1 frame, all put right", pages(1));
 }
 
 static void take_stock(void)

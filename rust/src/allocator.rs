@@ -62,8 +62,8 @@ pub struct Allocator<W> {
     workspace: W,
 }
 
-// SAFETY of the calls: the record is ours, and its flags are `bool`s. Words and numbers may be any. A slice's pointer and length go
-// together, and no two of those that a call is lent overlap, since they are borrowed here.
+// SAFETY of the calls: the record is ours. What it holds, words and numbers may be any. A slice's pointer and length go together, and no
+// two of those that a call is lent overlap, since they are borrowed here.
 impl<W: Workspace> Allocator<W> {
     /// A fresh record, which has no frames until it is booted. The words may be any.
     pub fn new(workspace: W) -> Self {
@@ -294,7 +294,7 @@ mod tests {
     #[test]
     fn a_fresh_record_lies_as_declared() {
         let record = unsafe { raw::likhmout_fresh() };
-        assert!(!record.sorted);
+        assert_eq!(record.sorted, 0);
         for list in [
             record.general_free,
             record.reserved_free,
@@ -303,7 +303,7 @@ mod tests {
         ] {
             assert_eq!(list.starts, [1; raw::SLOTS]);
             assert_eq!(list.ends, [0; raw::SLOTS]);
-            assert_eq!(list.used, [false; raw::SLOTS]);
+            assert_eq!(list.used, [0; raw::SLOTS]);
         }
         let lengths = [record.general_free_len, record.reserved_free_len];
         assert_eq!(lengths, [0; 2]);
@@ -321,15 +321,15 @@ mod tests {
         let entry = |list: &raw::EarlyList, slot: usize| {
             (list.used[slot], list.starts[slot], list.ends[slot])
         };
-        assert_eq!(entry(&allocator.record.general_free, 0), (true, 0, 9));
-        assert_eq!(entry(&allocator.record.general_regions, 0), (true, 0, 9));
-        assert_eq!(entry(&allocator.record.reserved_regions, 1), (true, 200, 206));
-        assert_eq!(entry(&allocator.record.reserved_free, 0), (true, 100, 101));
-        assert_eq!(entry(&allocator.record.reserved_free, 2), (true, 103, 104));
+        assert_eq!(entry(&allocator.record.general_free, 0), (1, 0, 9));
+        assert_eq!(entry(&allocator.record.general_regions, 0), (1, 0, 9));
+        assert_eq!(entry(&allocator.record.reserved_regions, 1), (1, 200, 206));
+        assert_eq!(entry(&allocator.record.reserved_free, 0), (1, 100, 101));
+        assert_eq!(entry(&allocator.record.reserved_free, 2), (1, 103, 104));
 
         allocator.convert_frame_allocator_to_heap_based().unwrap();
         let record = &allocator.record;
-        assert!(record.sorted);
+        assert_eq!(record.sorted, 1);
         assert_eq!((record.general_free_len, record.reserved_free_len), (1, 3));
         assert_eq!((record.general_regions_len, record.reserved_regions_len), (1, 2));
         assert_eq!(allocator.into_workspace()[1024..1030], [100, 101, 103, 104, 200, 206]);

@@ -35,8 +35,7 @@
 //! **Threads.** A lock is the program's. `Shared` is for one thread. Behind a lock an [`Allocator`] serves several, with returns by plain
 //! numbers.
 //!
-//! A call takes up to 27 KB of stack (a run; a boot 18 KB, a request or a return 13 KB, a sort 12 KB, any other call 4 KB; measured, not
-//! proved). The library uses SSE2 registers and the red zone.
+//! A call takes up to 12 KB of stack (a run; a boot 9 KB, any other call 5 KB; measured, not proved). The library uses SSE2 registers and the red zone.
 
 #![no_std]
 

@@ -6,19 +6,19 @@ use core::mem::{offset_of, size_of};
 
 pub const SLOTS: usize = 32;
 
-/// A list in early form. A slot that is not used holds `[1,0]`.
+/// A list in early form. A slot that is not used holds `[1,0]`. A flag is 0 or 1; any other byte breaks the list rules.
 #[repr(C)]
 #[derive(Clone, Copy)]
 pub struct EarlyList {
     pub starts: [u64; SLOTS],
     pub ends: [u64; SLOTS],
-    pub used: [bool; SLOTS],
+    pub used: [u8; SLOTS],
 }
 
 #[repr(C)]
 #[derive(Clone, Copy)]
 pub struct FrameAllocator {
-    pub sorted: bool,
+    pub sorted: u8,
     pub general_free: EarlyList,
     pub reserved_free: EarlyList,
     pub general_regions: EarlyList,

@@ -7,16 +7,16 @@ use lib.Dec.{eqb}
 use Rattle.bench_lines.specs.Commands.{command_of}
 use Rattle.std.proofs.Common.{Option}
 use Rattle.bench_lines.specs.declared.Command.{Command}
-use Rattle.bench_lines.specs.Lines.{lines_from, held}
+use Rattle.bench_lines.specs.Lines.{lines_from, held_line}
 use Rattle.bench_lines.proofs.Held.{held_decides_on}
-use Rattle.bench_answers.specs.Answered.{State, answered, state_after, printed}
+use Rattle.bench_answers.specs.Answered.{BenchState, answered, state_after, printed}
 
-pub state_append : (xs ys : List (List ℕ)) (s : State) → state_after (xs ++ ys) s ≡ state_after ys (state_after xs s)
+pub state_append : (xs ys : List (List ℕ)) (s : BenchState) → state_after (xs ++ ys) s ≡ state_after ys (state_after xs s)
 unfolding state_after
 state_append [] ys s = refl
 state_append (x ∷ xs) ys s = state_append xs ys (answered (command_of x) s).state
 
-pub printed_append : (xs ys : List (List ℕ)) (s : State) → printed (xs ++ ys) s ≡ printed xs s ++ printed ys (state_after xs s)
+pub printed_append : (xs ys : List (List ℕ)) (s : BenchState) → printed (xs ++ ys) s ≡ printed xs s ++ printed ys (state_after xs s)
 unfolding printed state_after
 printed_append [] ys s = refl
 printed_append (x ∷ xs) ys s =
@@ -34,7 +34,7 @@ goes_on a b x same more = ap command_of (append_assoc a (x ∷ []) more) ∙ sam
 ends : (a b : List ℕ) → SameLine a b → command_of a ≡ command_of b
 ends a b same = ap command_of (sym (append-nil a)) ∙ same [] ∙ ap command_of (append-nil b)
 
-same_state : (a b text : List ℕ) (s : State) → SameLine a b → state_after (lines_from a text) s ≡ state_after (lines_from b text) s
+same_state : (a b text : List ℕ) (s : BenchState) → SameLine a b → state_after (lines_from a text) s ≡ state_after (lines_from b text) s
 unfolding lines_from state_after
 same_state a b [] s same = refl
 same_state a b (x ∷ text) s same = go (eqb x 10) (same_state (a ++ (x ∷ [])) (b ++ (x ∷ [])) text s (goes_on a b x same))
@@ -44,7 +44,7 @@ same_state a b (x ∷ text) s same = go (eqb x 10) (same_state (a ++ (x ∷ []))
     go true later = ap (λ (c : Option Command). state_after (lines_from [] text) (answered c s).state) (ends a b same)
     go false later = later
 
-same_print : (a b text : List ℕ) (s : State) → SameLine a b → printed (lines_from a text) s ≡ printed (lines_from b text) s
+same_print : (a b text : List ℕ) (s : BenchState) → SameLine a b → printed (lines_from a text) s ≡ printed (lines_from b text) s
 unfolding lines_from printed
 same_print a b [] s same = refl
 same_print a b (x ∷ text) s same = go (eqb x 10) (same_print (a ++ (x ∷ [])) (b ++ (x ∷ [])) text s (goes_on a b x same))
@@ -55,8 +55,8 @@ same_print a b (x ∷ text) s same = go (eqb x 10) (same_print (a ++ (x ∷ []))
     go false later = later
 
 -- what is held of a line stands for all that came of it
-pub held_state : (came text : List ℕ) (s : State) → state_after (lines_from (held came) text) s ≡ state_after (lines_from came text) s
-held_state came text s = same_state (held came) came text s (held_decides_on came)
+pub held_state : (came text : List ℕ) (s : BenchState) → state_after (lines_from (held_line came) text) s ≡ state_after (lines_from came text) s
+held_state came text s = same_state (held_line came) came text s (held_decides_on came)
 
-pub held_print : (came text : List ℕ) (s : State) → printed (lines_from (held came) text) s ≡ printed (lines_from came text) s
-held_print came text s = same_print (held came) came text s (held_decides_on came)
+pub held_print : (came text : List ℕ) (s : BenchState) → printed (lines_from (held_line came) text) s ≡ printed (lines_from came text) s
+held_print came text s = same_print (held_line came) came text s (held_decides_on came)

@@ -6,15 +6,15 @@ use Rattle.model.specs.Store.{load}
 use Rattle.model.specs.declared.FrameAllocator.{FrameAllocator}
 use Rattle.rules.specs.Check as rules
 use Rattle.rules.proofs.OpenAs.{OpenAs, apart_as, open_ruled, open_lists}
-use Rattle.entries.specs.Listed.{lists_of}
-use Rattle.entries.specs.Whole.{lists_in, Ruled}
-use Rattle.entries.specs.declared.lists.FourLists.{FourLists}
-use Rattle.entries.specs.declared.header.Header.{Header}
-use Rattle.packing.specs.Open.{lent}
-use Rattle.packing.specs.Packed.{Apart}
+use Rattle.lists.specs.Listed.{lists_of}
+use Rattle.lists.specs.Whole.{lists_in, Ruled}
+use Rattle.lists.specs.declared.four_lists.FourLists.{FourLists}
+use Rattle.lists.specs.declared.header.Header.{Header}
+use Rattle.lists.specs.Open.{lent}
+use Rattle.lists.specs.Packed.{Apart}
 use Rattle.bench_answers.specs.Answered.{four_lines}
 
-module _ (a : FrameAllocator) (ws : List ℕ) (u : rules.Ruled a ws) {h : Header} {es : List ℕ} (p : Apart a h es) where
+module _ (a : FrameAllocator) (ws : List ℕ) (u : rules.RuledRecord a ws) {h : Header} {es : List ℕ} (p : Apart a h es) where
   stands : OpenAs (load a ws) h es ws
   stands = apart_as a ws p u
 

@@ -9,7 +9,7 @@ use Rattle.model.specs.Calls.{Call, Gives}
 use Rattle.model.specs.declared.Area.{Area}
 use Rattle.model.specs.declared.Called.{Called}
 use Rattle.model.specs.declared.FrameAllocator.{FrameAllocator}
-use Rattle.rules.specs.Check.{Ruled}
+use Rattle.rules.specs.Check.{RuledRecord}
 use Rattle.rules.proofs.Lasting.{fresh_ruled, gives_ruled}
 use Rattle.arrayvec.specs.ArrayVec.{ArrayVec}
 use Rattle.bench_areas.specs.Areas.{Few, how_many}
@@ -31,31 +31,26 @@ module _ {b : Bench} (f : First b) where
   pub first_ready : {words : List ℕ} → 4096 ≤ length words → Ready b words
   first_ready {words} enough = record {
     collecting = subst⁻¹ Few f.none few_none;
-    ruled = subst⁻¹ (λ (a : FrameAllocator). Ruled a words) f.fresh (fresh_ruled words enough);
+    ruled = subst⁻¹ (λ (a : FrameAllocator). RuledRecord a words) f.fresh (fresh_ruled words enough);
   }
 
 -- a text put where there is none is all that is there
 pub alone : (text : List ℕ) {none after : List ℕ} → none ≡ [] → after ≡ none ++ text → after ≡ text
 alone text empty put = put ∙ ap (λ (t : List ℕ). t ++ text) empty
 
-module _ {b : Bench} {out : List ℕ} where
+module _ (b : Bench) {out : List ℕ} where
   -- a text alone
   pub says : {t ws : List ℕ} → Ready b ws → out ≡ t → Replies (saying t (state_of b ws)) b out ws
   says ready p = record { state = refl; text = p; ready = ready }
 
   -- a call, whose record the bench goes on with
-  pub tells : {c : Call} {ws after : List ℕ} {called : Called} {d : Bench} → Ready b ws → Gives c b.allocator ws called after →
-      d ≡ with_record called.allocator b → out ≡ answer_line called.answer → Replies (calling c (state_of b ws)) d out after
+  pub tells : {c : Call} {ws after : List ℕ} {called : Called} → Ready b ws → Gives c b.allocator ws called after →
+      out ≡ answer_line called.answer → Replies (calling c (state_of b ws)) (with_record called.allocator b) out after
   unfolding calling
-  tells {after = after} {called} ready g e p = record {
-    state =
-        ap (λ (x : Bench). state_of x after) e
-        ∙ (λ i. record { areas = b.areas.items; allocator = g.records i; words = g.words i });
+  tells ready g p = record {
+    state = λ i. record { areas = b.areas.items; allocator = g.records i; words = g.words i };
     text = p ∙ ap answer_line g.answers;
-    ready = record {
-      collecting = subst⁻¹ (λ (x : Bench). Few x.areas.items) e ready.collecting;
-      ruled = subst⁻¹ (λ (x : Bench). Ruled x.allocator after) e (gives_ruled g ready.ruled);
-    };
+    ready = record { collecting = ready.collecting; ruled = gives_ruled g ready.ruled };
   }
 
 module _ (b : Bench) {out : List ℕ} (a : Area) {after : ArrayVec Area} (few : Few after.items) where

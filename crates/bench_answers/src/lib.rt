@@ -2,22 +2,21 @@
 #![tactic(auto)]
 
 ghost use Rattle.std.specs.Prelude.{◌≡◌, []};
-ghost use Rattle.rules.specs.Check.{Ruled};
+ghost use Rattle.rules.specs.Check.{RuledRecord};
 ghost use Rattle.model.specs.Calls.{boot_call};
 ghost use Rattle.model.specs.Store.{load};
 ghost use Rattle.bench_areas.specs.Areas.{Few};
 ghost use Rattle.bench_lines.specs.Commands.{command_of};
-ghost use Rattle.entries.specs.Listed.{lists_of};
-ghost use Rattle.bench_texts.specs.Texts.{answer_line};
+ghost use Rattle.lists.specs.Listed.{lists_of};
 ghost use Rattle.bench_answers.specs.Answered.{answered, calling, four_lines};
-ghost use Rattle.bench_answers.specs.Replies.{Ready, Replies, Gathers, First, state_of, with_record};
+ghost use Rattle.bench_answers.specs.Replies.{Ready, Replies, Gathers, First, state_of};
 
 use bench_areas::{Areas, TooMany};
 use bench_lines::Command;
 use bench_lists::put_list;
-use bench_texts::Out;
-use entries::{FourLists, WhichList};
-use model::{Area, Called, FrameAllocator};
+use bench_texts::{Out, write_answer};
+use lists::{FourLists, WhichList};
+use model::{Area, EARLY_WORDS, FrameAllocator};
 use requests::Request;
 
 // What lives from line to line, beside the lent words.
@@ -33,7 +32,7 @@ impl Bench {
         ensures { First result }
     {
         Bench {
-            allocator: lists::fresh(),
+            allocator: model::fresh(),
             areas: Areas::new(),
         }
     }
@@ -47,21 +46,29 @@ impl Bench {
         let Some(command) = bench_lines::read_command(line) else {
             return bench_texts::put_text(out, b"(bad)\n");
         };
-        // To the calls by value, of which `answered` speaks: each hands the record back.
-        let a = self.allocator;
         match command {
             Command::Collect(area) => self.collect(out, area),
             Command::Boot => self.boot(out, words),
-            Command::Sort => self.tell(out, sort::convert_frame_allocator_to_heap_based(a, words)),
-            Command::Count(num_frames) => self.tell(
+            Command::Sort => write_answer(
                 out,
-                calls::allocate(a, words, Request::Frames { num_frames }),
+                sort::convert_frame_allocator_to_heap_based(&mut self.allocator, words),
             ),
-            Command::At(frame, num_frames) => self.tell(
+            Command::Count(num_frames) => write_answer(
                 out,
-                calls::allocate(a, words, Request::FramesAt { frame, num_frames }),
+                calls::allocate(&mut self.allocator, words, Request::Frames { num_frames }),
             ),
-            Command::Give(range) => self.tell(out, calls::return_frames(a, words, range)),
+            Command::At(frame, num_frames) => write_answer(
+                out,
+                calls::allocate(
+                    &mut self.allocator,
+                    words,
+                    Request::FramesAt { frame, num_frames },
+                ),
+            ),
+            Command::Give(range) => write_answer(
+                out,
+                calls::return_frames(&mut self.allocator, words, range),
+            ),
             Command::Lists => self.list(out, words),
         }
     }
@@ -82,28 +89,18 @@ impl Bench {
         requires { (out.old.items ≡ []) × Ready self.old words.now }
         ensures { Replies (calling (boot_call self.old.areas.items) (state_of self.old words.now)) self.new out.new.items words.now }
     {
-        let booted = boot::boot_map(self.allocator, &self.areas.as_slice(), words);
-        self.tell(out, booted);
-    }
-
-    // Says what a call answered, and goes on with the record after it.
-    fn tell(&mut self, out: &mut Out, called: Called)
-        requires { out.old.items ≡ [] }
-        ensures bench { self.new ≡ with_record called.allocator self.old }
-        ensures text { out.new.items ≡ answer_line called.answer }
-    {
-        self.allocator = called.allocator;
-        bench_texts::write_answer(out, called.answer);
+        let answer = boot::boot_map(&mut self.allocator, &self.areas.as_slice(), words);
+        write_answer(out, answer);
     }
 
     fn list(&self, out: &mut Out, words: &[u64])
-        requires ruled { Ruled self.now.allocator words.now }
+        requires ruled { RuledRecord self.now.allocator words.now }
         requires empty { out.old.items ≡ [] }
         ensures { out.new.items ≡ four_lines (load self.now.allocator words.now) }
     {
-        let mut slots = [0u64; 256];
-        let h = packing::take_apart(&self.allocator, &mut slots);
-        put_lists(out, packing::lists_of(h, &slots, words));
+        let mut slots = [0u64; EARLY_WORDS];
+        let h = lists::take_apart(&self.allocator, &mut slots);
+        put_lists(out, lists::lists_of(h, &slots, words));
     }
 }
 

@@ -13,8 +13,8 @@ use Rattle.std.proofs.Math.Bool.{and-true}
 use Rattle.std.proofs.Common.{Option, Some, None}
 use Rattle.std.proofs.lemmas.Iterator.{YieldsList}
 use Rattle.std.specs.Iterator.{AlwaysYields}
-use Rattle.lines.specs.Words.{words_in}
-use Rattle.bench_lines.specs.Commands.{command_in, is_form, inside, command_of}
+use Rattle.lines.specs.Words.{words_of_line}
+use Rattle.bench_lines.specs.Commands.{command_in, is_form, in_brackets, command_of}
 
 -- ---- a line by its length and its brackets
 
@@ -48,7 +48,7 @@ module _ (line : List ℕ) where
     unfolding command_of is_form
     not_closed o e = rw (le-ltb 128 (length line) short, le-leb 2 (length line) long, first long 40, eq-eqb (get_or line 0 0) 40 o, last long 41, ne_eqb (get_or line (length line - 1) 0) 41 e)
 
-    pub form : get_or line 0 0 ≡ 40 → get_or line (length line - 1) 0 ≡ 41 → command_in (words_in (inside line)) ≡ command_of line
+    pub form : get_or line 0 0 ≡ 40 → get_or line (length line - 1) 0 ≡ 41 → command_in (words_of_line (in_brackets line)) ≡ command_of line
     unfolding command_of is_form
     form o e = rw (le-ltb 128 (length line) short, le-leb 2 (length line) long, first long 40, eq-eqb (get_or line 0 0) 40 o, last long 41, eq-eqb (get_or line (length line - 1) 0) 41 e)
 

@@ -3,7 +3,7 @@ use Rattle.std.specs.Prelude.{ℕ, ◌-◌, Bool, cond, ◌&&◌, Option, Some, 
 use Rattle.std.specs.Str.{bytes_eq}
 use Rattle.memory_structs.specs.Range.{range}
 use Rattle.model.specs.declared.Kind.TheVariants.{General, Reserved}
-use Rattle.lines.specs.Words.{decimal_of, words_in, reserved_text}
+use Rattle.lines.specs.Words.{decimal_of, words_of_line, reserved_text}
 use Rattle.bench_lines.specs.declared.Command.{Command}
 use Rattle.bench_lines.specs.declared.Command.TheVariants.{Collect, Boot, Sort, Count, At, Give, Lists}
 
@@ -85,9 +85,9 @@ is_form line =
     leb 2 (length line) && (bytes_eq (take 1 line) opening_text && bytes_eq (drop (length line - 1) line) closing_text)
 
 -- what stands between the brackets
-abbrev pub inside : List ℕ → List ℕ
-inside line = take ((length line - 1) - 1) (drop 1 line)
+abbrev pub in_brackets : List ℕ → List ℕ
+in_brackets line = take ((length line - 1) - 1) (drop 1 line)
 
 -- the command of a line, and none of any other: "anything else, or a line above 128 bytes, prints `(bad)`"
 unfoldable pub command_of : List ℕ → Option Command
-command_of line = cond (ltb 128 (length line)) None (cond (is_form line) (command_in (words_in (inside line))) None)
+command_of line = cond (ltb 128 (length line)) None (cond (is_form line) (command_in (words_of_line (in_brackets line))) None)

@@ -13,5 +13,5 @@ rest_from came (b ∷ text) = cond (eqb b 10) (rest_from [] text) (rest_from (ca
 
 -- of the bytes that came the first 129 are held. `held_on` and `held_decides` (proofs/Held) say that a line may come in any parts, and
 -- that 129 bytes of it decide what it is.
-abbrev pub held : List ℕ → List ℕ
-held came = take 129 came
+abbrev pub held_line : List ℕ → List ℕ
+held_line came = take 129 came

@@ -2,7 +2,7 @@
 #![tactic(auto)]
 
 ghost use Rattle.std.specs.Prelude.{◌≡◌, ◌++◌, take};
-ghost use Rattle.lines.specs.Words.{words_in};
+ghost use Rattle.lines.specs.Words.{words_of_line};
 ghost use Rattle.bench_lines.specs.Commands as command;
 
 use arrayvec::ArrayVec;
@@ -47,7 +47,7 @@ pub fn read_command(line: &[u8]) -> Option<Command>
 
 // What stands between the brackets: a name, alone or with numbers.
 fn read_form(text: &[u8]) -> Option<Command>
-    ensures { result ≡ command.command_in (words_in text.now) }
+    ensures { result ≡ command.command_in (words_of_line text.now) }
 {
     let mut words = text.split(|b| *b == b' ');
     let name = words.next()?;

@@ -12,14 +12,14 @@ use Rattle.model.specs.Lists.{Lists, Slot, unused, used, entries, range_at, boun
 use Rattle.model.specs.Rules.{rules}
 use Rattle.model.proofs.Lawful.{AllSound}
 use Rattle.model.proofs.Ruled.{tidy_is}
-use Rattle.entries.specs.Part.{IsPart, slots_in}
-use Rattle.entries.specs.Listed.{lists_of}
-use Rattle.entries.specs.Whole.{slots_at}
-use Rattle.entries.proofs.Forms.{sorted_length, early_length}
-use Rattle.entries.proofs.Whole.{tidy_list}
-use Rattle.entries.specs.declared.lists.FourLists.{FourLists}
-use Rattle.entries.specs.declared.header.WhichList.{WhichList}
-use Rattle.entries.specs.declared.header.WhichList.TheVariants.{GeneralFree, ReservedFree, GeneralRegions, ReservedRegions}
+use Rattle.lists.specs.Part.{IsPart, pairs_in}
+use Rattle.lists.specs.Listed.{lists_of}
+use Rattle.lists.specs.Whole.{slots_at}
+use Rattle.lists.proofs.Forms.{sorted_length, early_length}
+use Rattle.lists.proofs.Whole.{tidy_list}
+use Rattle.lists.specs.declared.four_lists.FourLists.{FourLists}
+use Rattle.lists.specs.declared.header.WhichList.{WhichList}
+use Rattle.lists.specs.declared.header.WhichList.TheVariants.{GeneralFree, ReservedFree, GeneralRegions, ReservedRegions}
 use Rattle.bench_texts.specs.Texts.{line_end_text}
 use Rattle.bench_texts.proofs.Decimal.{range_length, after_text}
 use Rattle.bench_lists.specs.ListLines.{entry_opening, entry_closing, entry_room, entries_room, entry_text, entries_text, name_text, list_line, line_of, line_room}
@@ -71,10 +71,10 @@ here (unused ∷ s) (suc i) h e = here s i (omega arith) e
 here (used r ∷ s) (suc i) h e = here s i (omega arith) e
 
 -- a list has at most 512 slots
-pub slots_few : {b : Bool} {n : ℕ} {ws : List ℕ} → IsPart b n ws → length (slots_in b n ws) ≤ 512
+pub slots_few : {b : Bool} {n : ℕ} {ws : List ℕ} → IsPart b n ws → length (pairs_in b n ws) ≤ 512
 slots_few {b} {n} {ws} t = go b refl
   where
-    go : (x : Bool) → b ≡ x → length (slots_in b n ws) ≤ 512
+    go : (x : Bool) → b ≡ x → length (pairs_in b n ws) ≤ 512
     go true e = omega (arith, sorted_length t e, t.few)
     go false e = omega (arith, early_length t e)
 

@@ -2,9 +2,9 @@
 use Rattle.std.specs.Prelude.{ℕ, ◌+◌, List, [], ◌∷◌, ◌++◌}
 use Rattle.memory_structs.specs.declared.range.FrameRange.{FrameRange}
 use Rattle.model.specs.Lists.{Lists, entries}
-use Rattle.entries.specs.Whole.{slots_at}
-use Rattle.entries.specs.declared.header.WhichList.{WhichList}
-use Rattle.entries.specs.declared.header.WhichList.TheVariants.{GeneralFree, ReservedFree, GeneralRegions, ReservedRegions}
+use Rattle.lists.specs.Whole.{slots_at}
+use Rattle.lists.specs.declared.header.WhichList.{WhichList}
+use Rattle.lists.specs.declared.header.WhichList.TheVariants.{GeneralFree, ReservedFree, GeneralRegions, ReservedRegions}
 use Rattle.bench_texts.specs.Texts.{range_text, line_end_text}
 
 -- "(general-free"

@@ -3,13 +3,14 @@
 
 ghost use Rattle.std.specs.Prelude.{◌≡◌, ◌+◌, ◌≤◌, ◌++◌, length};
 ghost use Rattle.model.specs.Lists.{entries};
-ghost use Rattle.entries.specs.Listed.{list_slots, lists_of};
+ghost use Rattle.lists.specs.Listed.{list_slots, lists_of};
 ghost use Rattle.bench_lists.specs.ListLines.{entry_room, entries_room, line_room, entry_text, entries_text, name_text, line_of};
 
 use arrayvec::ArrayVec;
 use bench_texts::{put_range, put_text};
-use entries::{FourLists, List, WhichList};
+use lists::{FourLists, List, WhichList};
 use memory_structs::FrameRange;
+use model::SLOTS;
 
 // Puts the line after what is there.
 #[tactic(auto, using(crate::proofs::Going::name_length))]
@@ -49,11 +50,15 @@ fn put_entries<const N: usize>(out: &mut ArrayVec<u8, N>, list: List)
 }
 
 // How many slots the list has.
-#[tactic(auto, using(entries::proofs::Forms::sorted_length, entries::proofs::Forms::early_length))]
+#[tactic(auto, using(lists::proofs::Forms::sorted_length, lists::proofs::Forms::early_length))]
 fn slots_in(list: List) -> usize
     ensures { result ≡ length (list_slots list.entry) }
 {
-    if list.part.sorted { list.part.len } else { 32 }
+    if list.part.sorted {
+        list.part.len
+    } else {
+        SLOTS
+    }
 }
 
 fn put_entry<const N: usize>(out: &mut ArrayVec<u8, N>, entry: FrameRange)

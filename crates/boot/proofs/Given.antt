@@ -18,13 +18,13 @@ use Rattle.model.specs.declared.Answer.{Answer}
 use Rattle.model.specs.Refusals.{number, refused_by}
 use Rattle.model.specs.declared.refusals.Refusal.{Refusal}
 use Rattle.model.proofs.Whole.{early_words}
-use Rattle.rules.specs.Check.{Verdict, verdict, answered_with, refused_with, accepted_with, Ruled}
+use Rattle.rules.specs.Check.{Verdict, verdict, answered_with, refused_with, accepted_with, RuledRecord}
 use Rattle.rules.proofs.Lasting.{ruled_checked}
 use Rattle.rules.proofs.Refusals.{numbered, without_15}
 use Rattle.rules.proofs.Numbers.{gives_stored, gives_unchanged, gives_refused, verdict_ruled}
-use Rattle.areas.specs.declared.BootArea.{BootArea}
-use Rattle.areas.specs.Areas.{extents, any_outside}
-use Rattle.areas.specs.Boots.{IsBoot}
+use Rattle.boot_areas.specs.declared.BootArea.{BootArea}
+use Rattle.boot_areas.specs.Areas.{extents, any_outside}
+use Rattle.boot_areas.specs.Boots.{IsBoot}
 use Rattle.boot.specs.Boots.{boot_number}
 
 -- 10, and the number after it
@@ -75,7 +75,7 @@ module _ (c : Call) (xs : List BootArea) (is : IsBoot c xs) (l : Lists) where
       go false p = absurd (omega arith)
 
 -- on a record and its words
-module _ (c : Call) (xs : List BootArea) (is : IsBoot c xs) (a : FrameAllocator) (ws : List ℕ) (u : Ruled a ws) where
+module _ (c : Call) (xs : List BootArea) (is : IsBoot c xs) (a : FrameAllocator) (ws : List ℕ) (u : RuledRecord a ws) where
   gives_number : (n : ℕ) → n ≡ boot_number (load a ws) xs → (n ≡ 0 → ⊥) → Gives c a ws (answered_with (without_frames n 0) a) ws
   unfolding refused
   gives_number n e z =
@@ -98,7 +98,7 @@ module _ (c : Call) (xs : List BootArea) (is : IsBoot c xs) (a : FrameAllocator)
 -- of a record whose test is known: refused by it, or by the boot's number; else filled
 module _ (c : Call) (xs : List BootArea) (is : IsBoot c xs) (a : FrameAllocator) (ws : List ℕ) (t : Verdict) (known : t ≡ verdict a ws) (filled : Verdict)
     (by_test : (r : Refusal) → t ≡ Err r → filled ≡ Err r) (by_number : t ≡ Ok tt → refused_by filled ≡ boot_number (load a ws) xs) where
-  passes : t ≡ Ok tt → Ruled a ws
+  passes : t ≡ Ok tt → RuledRecord a ws
   passes e = verdict_ruled a ws (sym known ∙ e)
 
   pub tested_refuses : (r : Refusal) → filled ≡ Err r → Gives c a ws (refused_with r a) ws

@@ -21,11 +21,11 @@ use Rattle.model.specs.declared.refusals.Refusal.{Refusal}
 use Rattle.model.specs.declared.refusals.Refusal.TheVariants.{TooManyReservedAreas, EmptyReservedArea, OutOfBounds}
 use Rattle.model.specs.Store.{record_of}
 use Rattle.model.proofs.Joined.{join_apart}
-use Rattle.carving.specs.Ranges.{Carvable}
-use Rattle.areas.specs.declared.BootArea.{BootArea}
-use Rattle.areas.specs.Areas.{extents, any_outside, reserved_in, pieces_in, collected}
-use Rattle.areas.specs.Boots.{Bounded}
-use Rattle.filling.specs.Filled.{filled_record}
+use Rattle.boot_carving.specs.Ranges.{Carvable}
+use Rattle.boot_areas.specs.declared.BootArea.{BootArea}
+use Rattle.boot_areas.specs.Areas.{extents, any_outside, reserved_in, pieces_in, collected}
+use Rattle.boot_areas.specs.Boots.{Bounded}
+use Rattle.boot_filling.specs.Filled.{filled_record}
 
 -- an area that passes 2 ends at or below the top
 reserved_low : (xs : List Extent) → any_of above_top (ranges xs) ≡ false → all_of (λ r. leb r.end top) (reserved_of xs) ≡ true

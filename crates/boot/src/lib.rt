@@ -8,28 +8,28 @@ ghost use Rattle.model.specs.Lists.{entries};
 ghost use Rattle.model.specs.Refusals.{refused_by};
 ghost use Rattle.model.specs.Store.{slots_of, load, record_of};
 ghost use Rattle.model.specs.declared.refusals.Refusal.{Refusal};
-ghost use Rattle.rules.specs.Check.{verdict};
-ghost use Rattle.areas.specs.Areas.{areas_in, byte_areas_in, extents};
-ghost use Rattle.areas.specs.Boots.{boot_call_of};
+ghost use Rattle.rules.specs.Check.{verdict, answered_with};
+ghost use Rattle.boot_areas.specs.Areas.{areas_in, byte_areas_in, extents};
+ghost use Rattle.boot_areas.specs.Boots.{boot_call_of};
 ghost use Rattle.boot.specs.Boots.{boot_number};
 
-use areas::{AreaUnit, BootMap, WordAreas};
-use model::{Answer, Called, EarlyList, FrameAllocator, Refusal};
+use boot_areas::{AreaUnit, BootMap, WordAreas};
+use model::{Answer, EarlyList, FrameAllocator, Refusal};
 
 // Boots from areas given as first frame, last frame and kind. The workspace has 4,096 words in either form, else 3; it is read only in
 // sorted form, and never written.
-#[tactic(auto, unfolding(areas::specs::Boots::boot_call_of))]
-pub fn init(a: FrameAllocator, areas: &[u64], words: &[u64]) -> Called
-    ensures { Gives (boot_call (areas_in areas.now)) a words.now result words.now }
+#[tactic(auto, unfolding(boot_areas::specs::Boots::boot_call_of))]
+pub fn init(a: &mut FrameAllocator, areas: &[u64], words: &[u64]) -> Answer
+    ensures { Gives (boot_call (areas_in areas.now)) a.old words.now (answered_with result a.new) words.now }
 {
     let unit = AreaUnit::Frames;
     boot_map(a, &WordAreas { words: areas, unit }, words)
 }
 
 // "A second entry takes areas as start address, byte size and kind".
-#[tactic(auto, unfolding(areas::specs::Boots::boot_call_of))]
-pub fn init_from_bytes(a: FrameAllocator, areas: &[u64], words: &[u64]) -> Called
-    ensures { Gives (boot_bytes_call (byte_areas_in areas.now)) a words.now result words.now }
+#[tactic(auto, unfolding(boot_areas::specs::Boots::boot_call_of))]
+pub fn init_from_bytes(a: &mut FrameAllocator, areas: &[u64], words: &[u64]) -> Answer
+    ensures { Gives (boot_bytes_call (byte_areas_in areas.now)) a.old words.now (answered_with result a.new) words.now }
 {
     let unit = AreaUnit::Bytes;
     boot_map(a, &WordAreas { words: areas, unit }, words)
@@ -38,36 +38,31 @@ pub fn init_from_bytes(a: FrameAllocator, areas: &[u64], words: &[u64]) -> Calle
 // A boot from areas in either unit, of a record whose test is known. The verdict goes along and refuses here: a run of a record that is refused goes
 // on, and each of its calls answers the refusal.
 pub fn boot_words(
-    a: FrameAllocator,
+    a: &mut FrameAllocator,
     tested: Result<(), Refusal>,
     areas: &[u64],
     unit: AreaUnit,
-) -> Called
-    ensures { (ws : List ℕ) → tested ≡ verdict a ws → Gives (boot_call_of unit areas.now) a ws result ws }
+) -> Answer
+    ensures { (ws : List ℕ) → tested ≡ verdict a.old ws → Gives (boot_call_of unit areas.now) a.old ws (answered_with result a.new) ws }
 {
     boot_tested(a, tested, &WordAreas { words: areas, unit })
 }
 
 // A boot from a map in any form.
-pub fn boot_map<M: BootMap>(a: FrameAllocator, map: &M, words: &[u64]) -> Called
-    ensures { Gives (M.call map.now) a words.now result words.now }
+pub fn boot_map<M: BootMap>(a: &mut FrameAllocator, map: &M, words: &[u64]) -> Answer
+    ensures { Gives (M.call map.now) a.old words.now (answered_with result a.new) words.now }
 {
-    let tested = rules::check(&a, words);
+    let tested = rules::check(a, words);
     boot_tested(a, tested, map)
 }
 
-// The record is filled where it is handed back, so that it is not copied on.
-fn boot_tested<M: BootMap>(a: FrameAllocator, tested: Result<(), Refusal>, map: &M) -> Called
-    ensures { (ws : List ℕ) → tested ≡ verdict a ws → Gives (M.call map.now) a ws result ws }
+fn boot_tested<M: BootMap>(a: &mut FrameAllocator, tested: Result<(), Refusal>, map: &M) -> Answer
+    ensures { (ws : List ℕ) → tested ≡ verdict a.old ws → Gives (M.call map.now) a.old ws (answered_with result a.new) ws }
 {
-    let mut called = Called {
-        answer: Answer::counted(0),
-        allocator: a,
-    };
-    if let Err(refusal) = fill(&mut called.allocator, tested, map) {
-        called.answer = Answer::from(refusal);
+    match fill(a, tested, map) {
+        Ok(()) => Answer::counted(0),
+        Err(refusal) => Answer::from(refusal),
     }
-    called
 }
 
 // "Order: 3, 11; boot then 10, 5, 4, 2, 7, 6"; else the lists are filled.
@@ -86,13 +81,13 @@ fn fill<M: BootMap>(
     if has_entries(a) {
         return Err(Refusal::NotEmpty);
     }
-    let reserved = areas::collect(map)?;
-    let pieces = areas::carve(map, &reserved)?;
-    let joined = joining::join(reserved);
-    if !filling::are_disjoint(&pieces, &joined) {
+    let reserved = boot_areas::collect(map)?;
+    let pieces = boot_areas::carve(map, &reserved)?;
+    let joined = boot_joining::join(reserved);
+    if !boot_filling::are_disjoint(&pieces, &joined) {
         return Err(Refusal::PiecesMeet);
     }
-    filling::fill_lists(a, &pieces, &joined);
+    boot_filling::fill_lists(a, &pieces, &joined);
     Ok(())
 }
 
@@ -102,7 +97,7 @@ fn fill<M: BootMap>(
 fn has_entries(a: &FrameAllocator) -> bool
     ensures { (ws : List ℕ) → result ≡ not (no_entries (load a.now ws)) }
 {
-    if a.sorted {
+    if a.sorted == 1 {
         return a.general_free_len != 0
             || a.reserved_free_len != 0
             || a.general_regions_len != 0
@@ -118,5 +113,5 @@ fn has_entries(a: &FrameAllocator) -> bool
 fn is_any_used(list: &EarlyList) -> bool
     ensures { result ≡ not (length (entries (slots_of list.now)) == 0) }
 {
-    list.used.contains(&true)
+    list.used.contains(&1)
 }

@@ -4,6 +4,6 @@ use Rattle.requests.specs.Asked as asked
 use Rattle.calls.specs.declared.Operation.{Operation}
 use Rattle.calls.specs.declared.Operation.TheVariants.{Allocate, Return}
 
-abbrev pub call_of : Operation → Call
-call_of (Allocate r) = asked.call_of r
-call_of (Return r) = return_call r
+abbrev pub operation_call : Operation → Call
+operation_call (Allocate r) = asked.call_of r
+operation_call (Return r) = return_call r

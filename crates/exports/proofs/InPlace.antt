@@ -6,11 +6,11 @@ use Rattle.model.specs.declared.FrameAllocator.{FrameAllocator}
 use Rattle.run.specs.Runs.{ran_to, Runs}
 use Rattle.run.specs.declared.Ran.{Ran}
 use Rattle.run.specs.declared.RunEnd.{RunEnd}
-use Rattle.exports.specs.Runs.{end_number, counted, why_ended, RunsInPlace}
+use Rattle.exports.specs.Runs.{end_number, counts_of, why_ended, RunsInPlace}
 use Rattle.exports.specs.declared.runs.RunCounts.{RunCounts}
 
 pub in_place : {areas calls : List ℕ} {a : FrameAllocator} {ws answers held : List ℕ} {r : Ran} {c : RunCounts} {words-after answers-after held_after : List ℕ} →
-    Runs areas calls a ws answers held r words-after answers-after held_after → c ≡ counted r.ending →
+    Runs areas calls a ws answers held r words-after answers-after held_after → c ≡ counts_of r.ending →
     RunsInPlace areas calls a ws answers held c r.allocator words-after answers-after held_after
 in_place {areas} {calls} {a} {ws} {answers} {held} {r} {c} {words-after} {answers-after} {held_after} e counts =
     record {

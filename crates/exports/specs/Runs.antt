@@ -12,8 +12,8 @@ end_number Done = 0
 end_number Damaged = 1
 end_number NoRoom = 2
 
-abbrev pub counted : Ending → RunCounts
-counted e = record { made = e.made; end = end_number e.end }
+abbrev pub counts_of : Ending → RunCounts
+counts_of e = record { made = e.made; end = end_number e.end }
 
 -- why such a run ends
 abbrev pub why_ended : (areas calls answers : List ℕ) → RunEnd

@@ -1,7 +1,7 @@
 // Boot: document 01, "Boot". C hands over no enum, so that the areas are words, three to an area, the third of them the kind: 0 is
-// general, any other number reserved. The record is put back by a line in each call, as in `frame_allocator`.
+// general, any other number reserved.
 ghost use Rattle.model.specs.Calls.{Gives, boot_call, boot_bytes_call};
-ghost use Rattle.areas.specs.Areas.{areas_in, byte_areas_in};
+ghost use Rattle.boot_areas.specs.Areas.{areas_in, byte_areas_in};
 ghost use Rattle.rules.specs.Check.{answered_with};
 
 use model::{Answer, FrameAllocator};
@@ -11,9 +11,7 @@ use model::{Answer, FrameAllocator};
 pub extern "C" fn likhmout_init(a: &mut FrameAllocator, areas: &[u64], words: &[u64]) -> Answer
     ensures { Gives (boot_call (areas_in areas.now)) a.old words.now (answered_with result a.new) words.now }
 {
-    let booted = boot::init(*a, areas, words);
-    *a = booted.allocator;
-    booted.answer
+    boot::init(a, areas, words)
 }
 
 // Areas as address, size in bytes and kind.
@@ -25,7 +23,5 @@ pub extern "C" fn likhmout_init_from_bytes(
 ) -> Answer
     ensures { Gives (boot_bytes_call (byte_areas_in areas.now)) a.old words.now (answered_with result a.new) words.now }
 {
-    let called = boot::init_from_bytes(*a, areas, words);
-    *a = called.allocator;
-    called.answer
+    boot::init_from_bytes(a, areas, words)
 }

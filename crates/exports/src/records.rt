@@ -9,5 +9,5 @@ use model::FrameAllocator;
 pub extern "C" fn likhmout_fresh() -> FrameAllocator
     ensures { result ≡ fresh_record }
 {
-    lists::fresh()
+    model::fresh()
 }

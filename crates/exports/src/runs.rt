@@ -1,6 +1,6 @@
 // A list of calls, run in place: docs/RUN.md.
 ghost use Rattle.std.specs.Prelude.{◌≡◌};
-ghost use Rattle.exports.specs.Runs.{counted, RunsInPlace};
+ghost use Rattle.exports.specs.Runs.{counts_of, RunsInPlace};
 
 use model::FrameAllocator;
 use run::{Ending, RunEnd};
@@ -25,13 +25,11 @@ pub extern "C" fn likhmout_run(
 ) -> RunCounts
     ensures { RunsInPlace areas.now calls.now a.old words.old answers.old held.old result a.new words.new answers.new held.new }
 {
-    let ran = run::run(*a, words, calls, areas, answers, held);
-    *a = ran.allocator;
-    RunCounts::from(ran.ending)
+    RunCounts::from(run::run(a, words, calls, areas, answers, held))
 }
 
 impl From<Ending> for RunCounts {
-    ghost from_gives = { λ ending counts. counts ≡ counted ending };
+    ghost from_gives = { λ ending counts. counts ≡ counts_of ending };
 
     fn from(ending: Ending) -> RunCounts {
         let made = ending.made;

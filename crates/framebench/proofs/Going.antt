@@ -15,9 +15,9 @@ use Rattle.std.proofs.lemmas.Grind.{common_steps}
 use Rattle.std.proofs.lemmas.List.Elements.{All-head, All-tail}
 use Rattle.bench_lines.specs.Commands.{command_of}
 use Rattle.bench_lines.specs.declared.Command.{Command}
-use Rattle.bench_lines.specs.Lines.{lines_from, rest_from, held}
+use Rattle.bench_lines.specs.Lines.{lines_from, rest_from, held_line}
 use Rattle.bench_lines.proofs.Lines.{lines_append, rest_append}
-use Rattle.bench_answers.specs.Answered.{State, answered, state_after}
+use Rattle.bench_answers.specs.Answered.{BenchState, answered, state_after}
 use Rattle.bench_answers.proofs.Lasting.{state_append}
 
 -- no byte ends a line
@@ -64,13 +64,13 @@ module _ (whole part left : List ℕ) (i : ℕ) (cut : whole ≡ part ++ left) (
       (cases_lt i (length whole))
 
 -- ---- the text so far, with one more part
-module _ (came text w : List ℕ) (first : State) {s : State} (u : Unended w) (so_far : s ≡ state_after (lines_from came text) first) where
+module _ (came text w : List ℕ) (first : BenchState) {s : BenchState} (u : Unended w) (so_far : s ≡ state_after (lines_from came text) first) where
   -- a line that ends is answered
-  pub state_on : {c : Option Command} {t : State} → c ≡ command_of (rest_from came text ++ w) → t ≡ (answered c s).state → t ≡ state_after (lines_from came (text ++ (w ++ (10 ∷ [])))) first
+  pub state_on : {c : Option Command} {t : BenchState} → c ≡ command_of (rest_from came text ++ w) → t ≡ (answered c s).state → t ≡ state_after (lines_from came (text ++ (w ++ (10 ∷ [])))) first
   unfolding state_after
   state_on is did =
       did ∙ ap (λ (x : Option Command). (answered x s).state) is
-      ∙ ap (λ (x : State). (answered (command_of (rest_from came text ++ w)) x).state) so_far
+      ∙ ap (λ (x : BenchState). (answered (command_of (rest_from came text ++ w)) x).state) so_far
       ∙ sym (state_append (lines_from came text) ((rest_from came text ++ w) ∷ []) first)
       ∙ ap (λ (ls : List (List ℕ)). state_after (lines_from came text ++ ls) first) (sym (line_of (rest_from came text) w u))
       ∙ ap (λ (ls : List (List ℕ)). state_after ls first) (sym (lines_append came text (w ++ (10 ∷ []))))
@@ -83,16 +83,16 @@ module _ (came text w : List ℕ) (first : State) {s : State} (u : Unended w) (s
       ∙ ap (λ (ls : List (List ℕ)). state_after (lines_from came text ++ ls) first) (sym (no_line (rest_from came text) w u))
       ∙ ap (λ (ls : List (List ℕ)). state_after ls first) (sym (lines_append came text w))
 
-pub held_none : (came text w : List ℕ) → Unended w → [] ≡ held (rest_from came (text ++ (w ++ (10 ∷ []))))
-held_none came text w u = ap held (sym (rest_append came text (w ++ (10 ∷ [])) ∙ rest_of (rest_from came text) w u))
+pub held_none : (came text w : List ℕ) → Unended w → [] ≡ held_line (rest_from came (text ++ (w ++ (10 ∷ []))))
+held_none came text w u = ap held_line (sym (rest_append came text (w ++ (10 ∷ [])) ∙ rest_of (rest_from came text) w u))
 
-pub held_more : (came text w : List ℕ) → Unended w → held (rest_from came text ++ w) ≡ held (rest_from came (text ++ w))
-held_more came text w u = ap held (sym (rest_append came text w ∙ all_rest (rest_from came text) w u))
+pub held_more : (came text w : List ℕ) → Unended w → held_line (rest_from came text ++ w) ≡ held_line (rest_from came (text ++ w))
+held_more came text w u = ap held_line (sym (rest_append came text w ∙ all_rest (rest_from came text) w u))
 
-pub held_few : {line : List ℕ} (came : List ℕ) → line ≡ held came → length line ≤ 129
+pub held_few : {line : List ℕ} (came : List ℕ) → line ≡ held_line came → length line ≤ 129
 held_few came is = omega (arith, ap length is, length-take 129 came)
 
 -- what is held before any of the text has come
-pub held_first : (line : List ℕ) → length line ≤ 129 → line ≡ held (rest_from line [])
+pub held_first : (line : List ℕ) → length line ≤ 129 → line ≡ held_line (rest_from line [])
 unfolding rest_from
 held_first line in-line = sym (take_all 129 line in-line)

@@ -1,6 +1,6 @@
 -- How far the bench program has come.
 use Rattle.std.specs.Prelude.{ℕ, ◌≤◌, ◌≡◌, List, length}
-use Rattle.bench_lines.specs.Lines.{lines_from, rest_from, held}
+use Rattle.bench_lines.specs.Lines.{lines_from, rest_from, held_line}
 use Rattle.bench_answers.specs.Answered.{state_after}
 use Rattle.bench_answers.specs.Replies.{Ready, state_of}
 use Rattle.bench_answers.specs.declared.Bench.{Bench}
@@ -15,4 +15,4 @@ pub record ReadyAt (b : Bench) (line words : List ℕ) : Type 0 where
 -- `rest_append` (bench_lines/proofs/Lines) say that the text may be parted anywhere.
 pub record AnswersLines (text : List ℕ) (b : Bench) (line words : List ℕ) (b-after : Bench) (line-after words-after : List ℕ) : Type 0 where
   pub state : state_of b-after words-after ≡ state_after (lines_from line text) (state_of b words)
-  pub rest : line-after ≡ held (rest_from line text)
+  pub rest : line-after ≡ held_line (rest_from line text)

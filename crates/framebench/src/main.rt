@@ -22,6 +22,7 @@ ghost use Rattle.framebench.specs.Reached.{ReadyAt, AnswersLines};
 use bench_answers::Bench;
 use bench_lines::Held;
 use bench_texts::Out;
+use model::WORKSPACE_WORDS;
 use std::io::Read;
 
 // Standard output.
@@ -32,7 +33,7 @@ const STDOUT_FILENO: i32 = 1;
 struct Buffers {
     line: Held,
     out: Out,
-    words: [u64; 4096],
+    words: [u64; WORKSPACE_WORDS],
 }
 
 fn main(rt: HostRuntime) {
@@ -40,7 +41,7 @@ fn main(rt: HostRuntime) {
     let mut buffers = Buffers {
         line: Held::new(),
         out: Out::new(),
-        words: [0; 4096],
+        words: [0; WORKSPACE_WORDS],
     };
     run(&rt, &mut chunk, &mut buffers);
 }

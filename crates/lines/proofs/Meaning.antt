@@ -11,7 +11,7 @@ use Rattle.std.specs.Char.{is_ascii_digit}
 use Rattle.std.specs.Str.{all_ascii_digits}
 use Rattle.std.proofs.Common.{Some, None, All, ◌==◌}
 use Rattle.std.proofs.lemmas.List.Splits.{slice_split_at, slice_split_none}
-use Rattle.lines.specs.Words.{value_after, decimal_of, words_in}
+use Rattle.lines.specs.Words.{value_after, decimal_of, words_of_line}
 
 value_more : (n : ℕ) (bs : List ℕ) (b : ℕ) → value_after n (bs ++ (b ∷ [])) ≡ value_after n bs * 10 + (b - 48)
 unfolding value_after
@@ -61,9 +61,9 @@ abbrev pub Spaceless : List ℕ → Type 0
 Spaceless w = All (λ b. (b == 32) ≡ false) w
 
 -- a space ends a word that has none
-pub word_ends : (w rest : List ℕ) → Spaceless w → words_in (w ++ (32 ∷ rest)) ≡ w ∷ words_in rest
+pub word_ends : (w rest : List ℕ) → Spaceless w → words_of_line (w ++ (32 ∷ rest)) ≡ w ∷ words_of_line rest
 word_ends w rest none = slice_split_at (λ b. b == 32) w 32 rest none refl
 
 -- a text that has none is one word
-pub one_word : (w : List ℕ) → Spaceless w → words_in w ≡ w ∷ []
+pub one_word : (w : List ℕ) → Spaceless w → words_of_line w ≡ w ∷ []
 one_word w none = slice_split_none (λ b. b == 32) w none

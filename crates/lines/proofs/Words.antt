@@ -6,7 +6,7 @@ use mathlib.Core.List.{List, [], ◌∷◌}
 use lib.Dec.{eqb}
 use lib.ListN.{length, set, drop}
 use borrow.Author.Tests.{lt-ltb, le-ltb, eq-eqb, ne_eqb}
-use Rattle.lines.specs.Words.{Filled, filled, words_in, words_after, number_at, put_number, put_all, read_after, whole_areas, outcome, Reads}
+use Rattle.lines.specs.Words.{Filled, filled, words_of_line, words_left, number_at, put_number, put_all, read_after, whole_areas, outcome, Reads}
 use Rattle.std.specs.Prelude.{Result, Ok, Err}
 use Rattle.lines.specs.declared.Unread.{Unread}
 use denote.Ref.{Bor}
@@ -15,14 +15,14 @@ use mathlib.Core.Bool.{Bool, true, false, ◌&&◌}
 use Rattle.std.proofs.Common.{map, ◌++◌, Some, None}
 
 -- what follows a name, where something does
-pub after_space : (t : List ℕ) → 1 ≤ length t → words_after t ≡ words_in (drop 1 t)
-unfolding words_after
+pub after_space : (t : List ℕ) → 1 ≤ length t → words_left t ≡ words_of_line (drop 1 t)
+unfolding words_left
 after_space [] some = absurd (omega arith)
 after_space (b ∷ t) some = refl
 
 module _ (l : Layout) where
   pub nothing_after : (t ws : List ℕ) → length t < 1 → Reads (read_after l t ws) (Ok 0) ws
-  unfolding words_after put_all
+  unfolding words_left put_all
   nothing_after [] ws none = record { count = refl; numbers = refl }
   nothing_after (b ∷ t) ws none = absurd (omega arith)
 
@@ -48,7 +48,7 @@ module _ (l : Layout) where
     put_none is = rw (← is) at (put_more ts t p (filled len v ws) so_far)
 
   -- what was put of the words in the end
-  pub reads : (text before ws : List ℕ) (ts : List (List ℕ)) (len : ℕ) (v : Bool) (r : Result ℕ Unread) → 1 ≤ length text → ts ≡ words_in (drop 1 text) →
+  pub reads : (text before ws : List ℕ) (ts : List (List ℕ)) (len : ℕ) (v : Bool) (r : Result ℕ Unread) → 1 ≤ length text → ts ≡ words_of_line (drop 1 text) →
       filled len v ws ≡ put_all l ts (filled 0 true before) → r ≡ outcome v len → Reads (read_after l text before) r ws
   reads text before ws ts len v r some all so_far is =
       let end = so_far ∙ ap (λ (xs : List (List ℕ)). put_all l xs (filled 0 true before)) (all ∙ sym (after_space text some)) in

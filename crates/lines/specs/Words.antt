@@ -21,13 +21,13 @@ unfoldable pub decimal_of : List ℕ → Option ℕ
 decimal_of bs = cond (all_ascii_digits bs && (ltb 0 (length bs) && ltb (value_after 0 bs) (2 ^ 64))) (Some (value_after 0 bs)) None
 
 -- the words of a text, parted by one space each, which is 32: a text with no space is one word, which may be empty
-abbrev pub words_in : List ℕ → List (List ℕ)
-words_in t = slice_split (λ b. b == 32) t
+abbrev pub words_of_line : List ℕ → List (List ℕ)
+words_of_line t = slice_split (λ b. b == 32) t
 
 -- the words of what follows a name: none, or a space and the words
-unfoldable pub words_after : List ℕ → List (List ℕ)
-words_after [] = []
-words_after (space ∷ bs) = words_in bs
+unfoldable pub words_left : List ℕ → List (List ℕ)
+words_left [] = []
+words_left (space ∷ bs) = words_of_line bs
 
 -- "general"
 abbrev pub general_text : List ℕ
@@ -38,12 +38,12 @@ abbrev pub reserved_text : List ℕ
 reserved_text = 114 ∷ 101 ∷ 115 ∷ 101 ∷ 114 ∷ 118 ∷ 101 ∷ 100 ∷ []
 
 -- the kind that a text names
-unfoldable pub kind_of : List ℕ → Option Kind
-kind_of t = cond (bytes_eq t general_text) (Some General) (cond (bytes_eq t reserved_text) (Some Reserved) None)
+unfoldable pub kind_named : List ℕ → Option Kind
+kind_named t = cond (bytes_eq t general_text) (Some General) (cond (bytes_eq t reserved_text) (Some Reserved) None)
 
 -- an area is two numbers and a kind, as boot takes it: the third word stands for the kind
 unfoldable pub word_of_area : ℕ → List ℕ → Option ℕ
-word_of_area place t = cond (eqb (place % 3) 2) (option_map word_of (kind_of t)) (decimal_of t)
+word_of_area place t = cond (eqb (place % 3) 2) (option_map word_of (kind_named t)) (decimal_of t)
 
 -- what a word stands for by its place
 unfoldable pub number_at : Layout → ℕ → List ℕ → Option ℕ
@@ -71,7 +71,7 @@ put_all l (t ∷ ts) p = put_all l ts (put_number (number_at l p.len t) p)
 
 -- the words of what follows a name, put from the first place on
 abbrev pub read_after : Layout → List ℕ → List ℕ → Filled
-read_after l text ws = put_all l (words_after text) (filled 0 true ws)
+read_after l text ws = put_all l (words_left text) (filled 0 true ws)
 
 -- areas, the last of them whole
 abbrev pub whole_areas : Filled → Filled

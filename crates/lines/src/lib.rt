@@ -80,9 +80,9 @@ fn number(layout: Layout, place: usize, word: &[u8]) -> Option<u64>
     }
 }
 
-#[tactic(auto, unfolding(crate::specs::Words::kind_of))]
+#[tactic(auto, unfolding(crate::specs::Words::kind_named))]
 fn kind(text: &[u8]) -> Option<Kind>
-    ensures { result ≡ words.kind_of text.now }
+    ensures { result ≡ words.kind_named text.now }
 {
     match text {
         b"general" => Some(Kind::General),

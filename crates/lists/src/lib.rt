@@ -1,41 +1,55 @@
-// A record to begin with: no list has an entry.
+// The four lists, in either form: a header by value, and their entries lent. Each is pairs of words in its own part of the entries. In sorted
+// form these are the workspace and the part a table of 1,024 words; in early form 256 words taken out of the record (`packing`), the part 64 of
+// them, 32 slots.
 #![tactic(auto)]
 
-ghost use Rattle.std.specs.Prelude.{◌≡◌, replicate};
-ghost use Rattle.model.specs.Lists.{unused};
-ghost use Rattle.model.specs.Store.{early_of};
-ghost use Rattle.model.specs.Calls.{fresh_record};
+ghost use Rattle.std.specs.Prelude.{◌≡◌, true, ◌<◌, length};
+ghost use Rattle.model.specs.Lists as model;
+ghost use Rattle.model.specs.Lists.{entries};
+ghost use Rattle.model.specs.Rules.{slotted};
+ghost use Rattle.lists.specs.Part.{Stored, part_slots, HoldsPart};
 
+mod four_lists;
+mod header;
+mod list;
+mod packing;
+
+pub use four_lists::FourLists;
+pub use header::{HandedBack, Header, WhichList};
+pub use list::List;
 use memory_structs::FrameRange;
-use model::{EarlyList, FrameAllocator};
+use model::{ENTRIES, SLOTS};
+pub use packing::{close, lists_of, take_apart};
 
-// 32 slots, none of them used.
-#[tactic(auto, unfolding(model::specs::Store::early_of))]
-pub fn unused_slots() -> EarlyList
-    ensures { result ≡ early_of (replicate 32 unused) }
-{
-    let empty = FrameRange::EMPTY;
-    let starts = [empty.start; 32];
-    let ends = [empty.end; 32];
-    let used = [false; 32];
-    EarlyList { starts, ends, used }
+// A list's form and its length, "0 in early form", as the record keeps them. It goes by value, beside the words of the list, which are lent. The
+// form is a flag, as the model's definitions take it (`find sorted ..`, `bound sorted`): an enum would be turned into one in each clause.
+#[derive(Clone, Copy)]
+pub struct Part {
+    pub sorted: bool,
+    pub len: usize,
 }
 
-// "A fresh record is in early form with every slot unused." A line for each list (`FrameAllocator`).
-#[tactic(auto, unfolding(model::specs::Calls::fresh_record, model::specs::Calls::fresh, model::specs::Store::record_of, model::specs::Store::early_in, model::specs::Store::length_in))]
-pub fn fresh() -> FrameAllocator
-    ensures { result ≡ fresh_record }
-{
-    let early = unused_slots();
-    FrameAllocator {
-        sorted: false,
-        general_free: early,
-        reserved_free: early,
-        general_regions: early,
-        reserved_regions: early,
-        general_free_len: 0,
-        reserved_free_len: 0,
-        general_regions_len: 0,
-        reserved_regions_len: 0,
+impl Part {
+    // The range goes in: into the first slot that is not used, in sorted form where its start belongs. The length after it.
+    pub fn insert(self, t: &mut [u64], range: FrameRange) -> usize
+        requires part { HoldsPart self t.old }
+        requires t_value { slotted self.sorted (part_slots self t.old) ≡ true }
+        requires t_len_bound { length (entries (part_slots self t.old)) < model.bound self.sorted }
+        ensures { Stored self.sorted (model.insert self.sorted range (part_slots self t.old)) result t.new }
+    {
+        if self.sorted {
+            tables::insert(t, self.len, range);
+            return self.len + 1;
+        }
+        pairs::insert(t, range);
+        self.len
+    }
+
+    // "more than 32 (early) or 512 (sorted) entries"
+    #[tactic(auto, unfolding(model::specs::Lists::bound))]
+    pub fn bound(self) -> usize
+        ensures { result ≡ model.bound self.sorted }
+    {
+        if self.sorted { ENTRIES } else { SLOTS }
     }
 }

@@ -1,16 +1,18 @@
 -- How many frames of a range a list of slots has, and what that says of the slots.
-use mathlib.Core.Path.{◌≡◌, refl, sym, ap, ◌∙◌}
+use mathlib.Core.Path.{◌≡◌, refl, sym, ap, subst, ◌∙◌}
 use mathlib.Core.Bool.{Bool, true, false, false≢true}
 use mathlib.Core.List.{List, [], ◌∷◌}
 use Prim.Native.Nat.{ℕ, zero, suc, ◌+◌, ◌-◌, ◌≤◌, ◌<◌}
 use native.Mathlib.Omega.{arith}
 use lib.Dec.{leb, ltb}
 use borrow.Author.Tests.{leb-true, leb-false, ltb-true, ltb-false}
-use Rattle.memory_structs.specs.Range.{range, size, common, top}
+use Rattle.std.specs.Prelude.{Option, None, Some, is_some}
+use Rattle.memory_structs.specs.Range.{range, size, common, inside, top}
 use Rattle.memory_structs.specs.declared.range.FrameRange.{FrameRange}
-use Rattle.memory_structs.proofs.Cover.{cov, cov_cases}
-use Rattle.model.specs.Lists.{Slot, unused, used, entries, sum, in_union}
-use Rattle.model.proofs.Cover.{tally}
+use Rattle.memory_structs.proofs.Cover.{cov, cov_in, cov_cases}
+use Rattle.memory_structs.proofs.Bools.{both_first, both_second}
+use Rattle.model.specs.Lists.{Slot, unused, used, entries, first_where, range_at, sum, in_union}
+use Rattle.model.proofs.Cover.{tally, Hit, first_hit, range_at_tally}
 use Rattle.model.proofs.Lawful.{AllSound, union_tally}
 use Rattle.model.proofs.Ruled.{is_union}
 use Rattle.pairs.specs.Frames.{frames_in}
@@ -73,6 +75,18 @@ module _ (s : List Slot) (once : (f : ℕ) → tally f s ≤ 1) (a : ℕ) where
       go false false p q = refl
       go true false p q = absurd (false≢true (sym q ∙ is_union s (range a e) h (λ f u v. each_frame (e - a) (omega (arith, ltb-true (e - a) (frames_in (range a e) (entries s)) p, same)) f u (omega arith))))
       go false true p q = absurd (omega (arith, ltb-false (e - a) (frames_in (range a e) (entries s)) p, same, all_frames (e - a) (λ f u v. union_tally s (range a e) q f u (omega arith))))
+
+-- a slot that has the range whole has each frame of it
+hit_union : (r : FrameRange) (s : List Slot) (q : Option ℕ) → r.start ≤ r.end → Hit (λ c. inside c r) s q → is_some q ≡ true → in_union (entries s) r ≡ true
+unfolding Hit
+hit_union r s None h hit e = absurd (false≢true e)
+hit_union r s (Some i) h hit e =
+    let low : (range_at s i).start ≤ r.start = leb-true _ _ (both_first (leb (range_at s i).start r.start) (leb r.end (range_at s i).end) hit.0) in
+    let high : r.end ≤ (range_at s i).end = leb-true _ _ (both_second (leb (range_at s i).start r.start) (leb r.end (range_at s i).end) hit.0) in
+    is_union s r h (λ f u v. omega (arith, range_at_tally i s f, cov_in (range_at s i) f (omega arith) (omega arith)))
+
+pub one_holds : (r : FrameRange) (s : List Slot) → r.start ≤ r.end → {q : Option ℕ} → q ≡ first_where (λ c. inside c r) s → is_some q ≡ true → true ≡ in_union (entries s) r
+one_holds r s h {q} p e = sym (hit_union r s q h (subst (Hit (λ c. inside c r) s) (sym p) (first_hit (λ c. inside c r) s)) e)
 
 -- every frame of sound slots is at or below the top
 pub counted_all : (s : List Slot) → AllSound s → frames_in (range 0 top) (entries s) ≡ sum (entries s)

@@ -10,7 +10,11 @@ use lib.ListN.{length, drop, get_or, set, drop_of_length-le}
 use lib.Seq.{drop-cons}
 use Rattle.model.proofs.Forms.{remove_set}
 use Rattle.std.specs.Prelude.{if◌then◌else◌}
-use Rattle.model.specs.Lists.{Slot, unused, used, later, first_where, insert_early, remove}
+use Rattle.std.specs.Prelude.{is_some}
+use lib.Dec.{ltb}
+use borrow.Author.Tests.{lt-ltb, le-ltb, ltb-true, ltb-false}
+use Rattle.model.proofs.Plainly.{fewer_entries}
+use Rattle.model.specs.Lists.{Slot, unused, used, entries, later, first_where, insert_early, remove}
 use Rattle.std.specs.Prelude.{Option}
 use Rattle.std.specs.Prelude.{None, Some}
 use Rattle.memory_structs.specs.declared.range.FrameRange.{FrameRange}
@@ -95,3 +99,22 @@ unused_bound (used x ∷ s) (suc i) e = omega (arith, unused_bound s i (later_at
 pub remove_is : (s : List Slot) (i : ℕ) → i < length s → remove false i 1 s ≡ set s i unused
 unfolding remove
 remove_is s i h = remove_set i s
+
+-- a slot is not used just where there are fewer entries than slots
+later_some : (q : Option ℕ) → is_some (later q) ≡ is_some q
+unfolding later
+later_some None = refl
+later_some (Some i) = refl
+
+one_more : (m n : ℕ) → ltb m n ≡ ltb (suc m) (suc n)
+one_more m n = go (ltb m n) refl
+  where
+    go : (b : Bool) → ltb m n ≡ b → b ≡ ltb (suc m) (suc n)
+    go true e = sym (lt-ltb _ _ (omega (arith, ltb-true m n e)))
+    go false e = sym (le-ltb _ _ (omega (arith, ltb-false m n e)))
+
+pub unused_left : (s : List Slot) → is_some (first_unused s) ≡ ltb (length (entries s)) (length s)
+unfolding first_slot entries
+unused_left [] = refl
+unused_left (unused ∷ s) = sym (lt-ltb _ _ (omega (arith, fewer_entries s)))
+unused_left (used r ∷ s) = later_some (first_unused s) ∙ unused_left s ∙ one_more (length (entries s)) (length s)

@@ -3,7 +3,7 @@ use Rattle.std.specs.Prelude.{ℕ, ◌≡◌, ◌<◌, ◌^◌, Bool, true, fals
 use Rattle.std.specs.Prelude.{if◌then◌else◌}
 use Rattle.memory_structs.specs.declared.range.FrameRange.{FrameRange}
 use Rattle.model.specs.Lists.{Slot, unused, used, later}
-use Rattle.pairs.specs.Pairs.{slot_of}
+use Rattle.pairs.specs.Pairs.{range_slot}
 
 -- the first slot that passes
 unfoldable pub first_slot : (Slot → Bool) → List Slot → Option ℕ
@@ -25,4 +25,4 @@ first_unused s = first_slot is_unused s
 
 -- a test in code says of a pair of words what p says of its slot
 abbrev pub Tests : (FrameRange → Bool → Type 0) → (Slot → Bool) → Type 0
-Tests post p = (r : FrameRange) (b : Bool) → r.start < 2 ^ 64 → r.end < 2 ^ 64 → post r b → b ≡ p (slot_of r)
+Tests post p = (r : FrameRange) (b : Bool) → r.start < 2 ^ 64 → r.end < 2 ^ 64 → post r b → b ≡ p (range_slot r)

@@ -18,11 +18,11 @@ use Rattle.std.specs.Prelude.{Ok, Err}
 use Rattle.rules.specs.Check.{verdict}
 use Rattle.rules.proofs.Held.{answers_going, held_going}
 use Rattle.rules.proofs.Numbers.{short_call, gives_refused, passed_number, verdict_ruled}
-use Rattle.entries.specs.Listed.{lists_of}
-use Rattle.entries.specs.declared.lists.FourLists.{FourLists}
-use Rattle.entries.specs.Whole.{lists_in, Ruled}
+use Rattle.lists.specs.Listed.{lists_of}
+use Rattle.lists.specs.declared.four_lists.FourLists.{FourLists}
+use Rattle.lists.specs.Whole.{lists_in, Ruled}
 use Rattle.rules.specs.Check.{Opens}
-use Rattle.packing.specs.Open.{lent}
+use Rattle.lists.specs.Open.{lent}
 use Rattle.rules.specs.declared.Opened.{Opened}
 use Rattle.rules.proofs.OpenAs.{OpenAs, apart_as, open_ruled, open_lists}
 use Rattle.query_core.specs.Listed.{Listed}

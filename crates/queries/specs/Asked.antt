@@ -2,8 +2,8 @@
 use Rattle.std.specs.Prelude.{ℕ, ◌≡◌, List, Ok}
 use Rattle.model.specs.Store.{load}
 use Rattle.model.specs.declared.FrameAllocator.{FrameAllocator}
-use Rattle.entries.specs.Listed.{lists_of}
-use Rattle.entries.specs.declared.lists.FourLists.{FourLists}
+use Rattle.lists.specs.Listed.{lists_of}
+use Rattle.lists.specs.declared.four_lists.FourLists.{FourLists}
 use Rattle.rules.specs.Check.{verdict}
 
 -- neither 3 nor 11, and the lists are the record's

@@ -7,16 +7,16 @@ ghost use Rattle.model.specs.Calls.{kind_call, total_call, Answers, ListsHeld};
 ghost use Rattle.rules.specs.Check.{verdict};
 ghost use Rattle.queries.specs.Asked.{MayRead};
 
-use entries::FourLists;
+use lists::FourLists;
 use memory_structs::FrameRange;
-use model::{Answer, FrameAllocator, Kind, Refusal};
+use model::{Answer, EARLY_WORDS, FrameAllocator, HELD_WORDS, Kind, Refusal};
 
 // "the kind (0 general, 1 reserved: any frame in a reserved region)"
 #[tactic(auto, using(crate::proofs::Asked::answers_read), unfolding(model::specs::Calls::answer, model::specs::Calls::short_buffer))]
 pub fn kind_of_range(a: &FrameAllocator, words: &[u64], range: FrameRange) -> Answer
     ensures { Answers (kind_call range) a.now words.now result }
 {
-    let mut slots = [0u64; 256];
+    let mut slots = [0u64; EARLY_WORDS];
     match lists_of(a, words, &mut slots) {
         Ok(lists) => query_core::kind(lists, range),
         Err(refusal) => Answer::from(refusal),
@@ -28,7 +28,7 @@ pub fn kind_of_range(a: &FrameAllocator, words: &[u64], range: FrameRange) -> An
 pub fn free_total(a: &FrameAllocator, words: &[u64], kind: Kind) -> Answer
     ensures { Answers (total_call kind) a.now words.now result }
 {
-    let mut slots = [0u64; 256];
+    let mut slots = [0u64; EARLY_WORDS];
     match lists_of(a, words, &mut slots) {
         Ok(lists) => query_core::free_total(lists, kind),
         Err(refusal) => Answer::from(refusal),
@@ -41,10 +41,10 @@ pub fn free_total(a: &FrameAllocator, words: &[u64], kind: Kind) -> Answer
 pub fn held_list(a: &FrameAllocator, words: &[u64], buffer: &mut [u64]) -> Answer
     ensures { ListsHeld a.now words.now buffer.old result buffer.new }
 {
-    if buffer.len() < 2048 {
+    if buffer.len() < HELD_WORDS {
         return Answer::from(Refusal::TooFewWords);
     }
-    let mut slots = [0u64; 256];
+    let mut slots = [0u64; EARLY_WORDS];
     match lists_of(a, words, &mut slots) {
         Ok(lists) => query_core::held_list(lists, buffer),
         Err(refusal) => Answer::from(refusal),
@@ -56,12 +56,12 @@ pub fn held_list(a: &FrameAllocator, words: &[u64], buffer: &mut [u64]) -> Answe
 fn lists_of<'a>(
     a: &FrameAllocator,
     words: &'a [u64],
-    slots: &'a mut [u64; 256],
+    slots: &'a mut [u64; EARLY_WORDS],
 ) -> Result<FourLists<'a>, Refusal>
     ensures ok { IfOk result (MayRead a.now words.now) }
     ensures err { IfErr result (λ refusal. verdict a.now words.now ≡ Err refusal) }
 {
     let opened = rules::open(a, words, slots);
     opened.tested?;
-    Ok(packing::lists_of(opened.header, slots, words))
+    Ok(lists::lists_of(opened.header, slots, words))
 }

@@ -12,7 +12,7 @@ use Rattle.model.specs.Requests.{without_frames, refused, counted}
 use Rattle.model.specs.Queries.{kind_of, total}
 use Rattle.model.specs.declared.Kind.{Kind}
 use Rattle.model.specs.declared.Kind.TheVariants.{General, Reserved}
-use Rattle.entries.specs.Whole.{slots_at}
+use Rattle.lists.specs.Whole.{slots_at}
 use Rattle.query_core.specs.Kinds.{free_list}
 
 -- an empty range has no frame of any range

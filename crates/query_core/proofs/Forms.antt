@@ -13,13 +13,13 @@ use Rattle.model.proofs.Held.{held_count, written_same, sort_holds}
 use Rattle.model.proofs.Lawful.{Lawful}
 use Rattle.model.proofs.Returns.{sort_step}
 use Rattle.model.proofs.Ruled.{rules_lawful, lawful_rules}
-use Rattle.entries.specs.declared.header.WhichList.{WhichList}
-use Rattle.entries.specs.declared.header.WhichList.TheVariants.{GeneralFree, GeneralRegions}
-use Rattle.entries.specs.declared.header.Header.{Header}
-use Rattle.entries.specs.Whole.{lists_in, slots_at, Ruled}
-use Rattle.entries.proofs.Whole.{tidy_list}
-use Rattle.pair_sorting.specs.Ordered.{in_order}
-use Rattle.held.specs.Runs.{two_tables}
+use Rattle.lists.specs.declared.header.WhichList.{WhichList}
+use Rattle.lists.specs.declared.header.WhichList.TheVariants.{GeneralFree, GeneralRegions}
+use Rattle.lists.specs.declared.header.Header.{Header}
+use Rattle.lists.specs.Whole.{lists_in, slots_at, Ruled}
+use Rattle.lists.proofs.Whole.{tidy_list}
+use Rattle.pairs.specs.Ordered.{in_order}
+use Rattle.query_held.specs.Runs.{two_tables}
 use Rattle.query_core.specs.Listed.{Listed}
 
 two_hold : (l : Lists) (f : ℕ) → is_held (two_tables l.general_regions l.general_free) f ≡ is_held l f

@@ -5,22 +5,21 @@ ghost use Rattle.std.specs.Prelude.{◌≡◌, true, ◌≤◌, length};
 ghost use Rattle.model.specs.Rules.{tidy};
 ghost use Rattle.model.specs.Queries.{kind_of, total, HeldWritten};
 ghost use Rattle.pairs.specs.Early.{early_slots};
-ghost use Rattle.entries.specs.Listed.{lists_of};
-ghost use Rattle.pair_sorting.specs.Ordered.{in_order};
-ghost use Rattle.held.specs.Runs.{two_tables};
+ghost use Rattle.lists.specs.Listed.{lists_of};
+ghost use Rattle.pairs.specs.Ordered.{in_order};
+ghost use Rattle.query_held.specs.Runs.{two_tables};
 ghost use Rattle.query_core.specs.Kinds.{free_list};
 ghost use Rattle.query_core.specs.Listed.{Listed};
 
-use entries::{FourLists, WhichList};
-use held::write_runs;
+use lists::{FourLists, WhichList};
 use memory_structs::FrameRange;
-use model::{Answer, Kind, Refusal};
-use pairs::Slots;
-use tables::Table;
+use model::{Answer, Kind, Refusal, SLOT_WORDS};
+use pairs::{Slots, sorted_table};
+use query_held::write_runs;
 
 // "the kind (0 general, 1 reserved: any frame in a reserved region)" (000, `into_unmapped_frames`). 2 comes first, for an empty range too.
 // An `Answer` here and below, and no `Result` of a kind: document 01 answers the kind as a count, and both callers hand the answer on.
-#[tactic(auto, using(crate::proofs::Asked::kind_above, crate::proofs::Asked::kind_empty, crate::proofs::Asked::kind_reserved, crate::proofs::Asked::kind_general), unfolding(entries::specs::Whole::slots_at, model::specs::Words::word_of))]
+#[tactic(auto, using(crate::proofs::Asked::kind_above, crate::proofs::Asked::kind_empty, crate::proofs::Asked::kind_reserved, crate::proofs::Asked::kind_general), unfolding(lists::specs::Whole::slots_at, model::specs::Words::word_of))]
 pub fn kind(lists: FourLists, range: FrameRange) -> Answer
     ensures { result ≡ (kind_of range (lists_of lists.entry)).answer }
 {
@@ -74,24 +73,16 @@ pub fn held_list(lists: FourLists, buffer: &mut [u64]) -> Answer
 }
 
 // The same walk over early slots, put in order first: 64 words of the stack for each list.
-#[tactic(auto, using(crate::proofs::Forms::two_same, pair_sorting::proofs::Sorting::ordered_slots))]
+#[tactic(auto, using(crate::proofs::Forms::two_same))]
 fn write_from_pairs(regions: Slots, chunks: Slots, buffer: &mut [u64]) -> usize
     requires buffer_len { 2048 ≤ length buffer.old }
     requires regions_value { tidy true (in_order (early_slots regions)) ≡ true }
     requires chunks_value { tidy true (in_order (early_slots chunks)) ≡ true }
     ensures { HeldWritten (two_tables (in_order (early_slots regions.entry)) (in_order (early_slots chunks.entry))) result buffer.old buffer.new }
 {
-    let mut region_pairs = [0; 64];
-    let mut chunk_pairs = [0; 64];
-    let regions_len = pair_sorting::sort_pairs(regions, &mut region_pairs);
-    let chunks_len = pair_sorting::sort_pairs(chunks, &mut chunk_pairs);
-    let regions = Table {
-        words: &region_pairs,
-        len: regions_len,
-    };
-    let chunks = Table {
-        words: &chunk_pairs,
-        len: chunks_len,
-    };
+    let mut region_pairs = [0; SLOT_WORDS];
+    let mut chunk_pairs = [0; SLOT_WORDS];
+    let regions = sorted_table(regions, &mut region_pairs);
+    let chunks = sorted_table(chunks, &mut chunk_pairs);
     write_runs(regions, chunks, buffer)
 }

@@ -1,7 +1,7 @@
 // The calls of the allocator: each writes its answer, and leaves the record as the call does.
 use crate::reading::Call;
 use crate::shown::{self, Counted, Shown};
-use model::{Answer, Called, FrameAllocator};
+use model::{Answer, FrameAllocator, HELD_WORDS};
 use std::io::{self, Write};
 
 pub fn call(
@@ -11,27 +11,22 @@ pub fn call(
     call: Call<'_>,
 ) -> io::Result<()> {
     match call {
-        Call::Boot(areas) => told(out, boot::init(*a, areas, words), a),
-        Call::BootBytes(areas) => told(out, boot::init_from_bytes(*a, areas, words), a),
-        Call::Sort => told(
-            out,
-            sort::convert_frame_allocator_to_heap_based(*a, words),
-            a,
-        ),
-        Call::Allocate(request) => told(out, calls::allocate(*a, words, request), a),
-        Call::Return(range) => told(out, calls::return_frames(*a, words, range), a),
+        Call::Boot(areas) => told(out, boot::init(a, areas, words)),
+        Call::BootBytes(areas) => told(out, boot::init_from_bytes(a, areas, words)),
+        Call::Sort => told(out, sort::convert_frame_allocator_to_heap_based(a, words)),
+        Call::Allocate(request) => told(out, calls::allocate(a, words, request)),
+        Call::Return(range) => told(out, calls::return_frames(a, words, range)),
         Call::KindOf(range) => counted(out, queries::kind_of_range(a, words, range)),
         Call::Total(kind) => counted(out, queries::free_total(a, words, kind)),
-        Call::Held => held(out, a, words, &mut [0; 2048]),
+        Call::Held => held(out, a, words, &mut [0; HELD_WORDS]),
         // In a buffer that is a word too short.
         Call::HeldShort => held(out, a, words, &mut [0; 2047]),
     }
 }
 
-// Writes the answer, and goes on with the record that the call hands back.
-fn told(out: &mut impl Write, called: Called, a: &mut FrameAllocator) -> io::Result<()> {
-    *a = called.allocator;
-    writeln!(out, "{}", Shown(called.answer))
+// Writes a call's answer.
+fn told(out: &mut impl Write, answer: Answer) -> io::Result<()> {
+    writeln!(out, "{}", Shown(answer))
 }
 
 // Writes a question's answer. A question leaves the record as it is.

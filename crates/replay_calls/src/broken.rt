@@ -5,6 +5,6 @@ use model::FrameAllocator;
 pub fn with_broken_slot(mut a: FrameAllocator) -> FrameAllocator {
     a.general_free.starts[31] = 1;
     a.general_free.ends[31] = 0;
-    a.general_free.used[31] = true;
+    a.general_free.used[31] = 1;
     a
 }

@@ -1,13 +1,13 @@
 // Makes what a line asks for, writes the answer, and leaves the record as the call does.
 use crate::reading::{Call, Line, Way};
 use crate::{asked, broken, shown};
-use model::FrameAllocator;
+use model::{FrameAllocator, WORKSPACE_WORDS};
 use std::io::{self, Write};
 
 pub fn answer(
     out: &mut impl Write,
     a: &mut FrameAllocator,
-    words: &mut [u64; 4096],
+    words: &mut [u64; WORKSPACE_WORDS],
     line: Line<'_>,
 ) -> io::Result<()> {
     match line {
@@ -28,7 +28,7 @@ pub fn answer(
 fn broken_word(
     out: &mut impl Write,
     a: &mut FrameAllocator,
-    words: &mut [u64; 4096],
+    words: &mut [u64; WORKSPACE_WORDS],
     call: Call<'_>,
 ) -> io::Result<()> {
     let last = words[4095];
@@ -38,13 +38,17 @@ fn broken_word(
     Ok(())
 }
 
-fn show(out: &mut impl Write, a: &FrameAllocator, words: &[u64; 4096]) -> io::Result<()> {
+fn show(
+    out: &mut impl Write,
+    a: &FrameAllocator,
+    words: &[u64; WORKSPACE_WORDS],
+) -> io::Result<()> {
     shown::record(out, a, words)?;
     writeln!(out)
 }
 
 fn begin_again(out: &mut impl Write, a: &mut FrameAllocator, words: &mut [u64]) -> io::Result<()> {
     words.fill(1);
-    *a = lists::fresh();
+    *a = model::fresh();
     writeln!(out, "done")
 }

@@ -33,6 +33,7 @@ mod lines_called;
 mod reading;
 mod shown;
 
+use model::WORKSPACE_WORDS;
 use std::io::{self, BufRead, BufReader, BufWriter, Write};
 
 // Answers each line; the last may lack its line end.
@@ -41,8 +42,8 @@ fn main(rt: HostRuntime) -> io::Result<()> {
     let mut out = BufWriter::new(alloc, io::writer(&rt))?;
     // Room for 40 areas, so that 33 reserved ones or 33 pieces fit.
     let mut numbers = [0; 120];
-    let mut words = [1; 4096];
-    let mut a = lists::fresh();
+    let mut words = [1; WORKSPACE_WORDS];
+    let mut a = model::fresh();
     for line in BufReader::new(alloc, rt.reader())?.split(alloc, b'\n') {
         match reading::read_line(&line?, &mut numbers) {
             Some(line) => lines_called::answer(&mut out, &mut a, &mut words, line)?,

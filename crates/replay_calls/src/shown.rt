@@ -1,6 +1,6 @@
 // A record's lists and an answer as words of a line.
 use memory_structs::FrameRange;
-use model::{Answer, EarlyList, FrameAllocator};
+use model::{Answer, EarlyList, FrameAllocator, SLOTS, WORKSPACE_WORDS};
 use std::fmt::{self, Display, Formatter};
 use std::io::{self, Write};
 
@@ -46,15 +46,23 @@ impl Display for Counted {
 }
 
 // The form and the four lists by name, each in stored order as starts and ends.
-pub fn record(out: &mut impl Write, a: &FrameAllocator, words: &[u64; 4096]) -> io::Result<()> {
-    if a.sorted {
+pub fn record(
+    out: &mut impl Write,
+    a: &FrameAllocator,
+    words: &[u64; WORKSPACE_WORDS],
+) -> io::Result<()> {
+    if a.sorted == 1 {
         sorted(out, a, words)
     } else {
         early(out, a)
     }
 }
 
-fn sorted(out: &mut impl Write, a: &FrameAllocator, words: &[u64; 4096]) -> io::Result<()> {
+fn sorted(
+    out: &mut impl Write,
+    a: &FrameAllocator,
+    words: &[u64; WORKSPACE_WORDS],
+) -> io::Result<()> {
     write!(out, "sorted general_free")?;
     pairs(out, &words[..1024], a.general_free_len)?;
     write!(out, " reserved_free")?;
@@ -87,14 +95,15 @@ pub fn pairs(out: &mut impl Write, t: &[u64], len: usize) -> io::Result<()> {
 // A dash stands for the unused slots below a used one.
 fn slots(out: &mut impl Write, l: &EarlyList) -> io::Result<()> {
     let mut gap = false;
-    for i in 0..32 {
-        if l.used[i] {
+    for i in 0..SLOTS {
+        let used = l.used[i] == 1;
+        if used {
             if gap {
                 write!(out, " -")?;
             }
             entry(out, l.starts[i], l.ends[i])?;
         }
-        gap = !l.used[i];
+        gap = !used;
     }
     Ok(())
 }

@@ -1,24 +1,27 @@
 -- How many entries a grant leaves.
 use Prim.Native.Nat.{ℕ, zero, suc, ◌+◌, ◌-◌, ◌≤◌, ◌<◌}
 use native.Mathlib.Omega.{arith}
-use mathlib.Core.Path.{◌≡◌, refl, ap, ◌∙◌}
-use mathlib.Core.Bool.{Bool, true, false}
+use mathlib.Core.Path.{◌≡◌, refl, sym, ap, ◌∙◌}
+use mathlib.Core.Bool.{Bool, true, false, not, ◌&&◌}
 use mathlib.Core.List.{List, [], ◌∷◌}
 use lib.ListN.{length}
-use lib.Dec.{ltb}
-use borrow.Author.Tests.{lt-ltb, le-ltb}
+use lib.Dec.{ltb, leb, eqb}
+use borrow.Author.Tests.{lt-ltb, le-ltb, leb-true, leb-false, eqb-true, eqb-false}
 use Rattle.memory_structs.specs.declared.range.FrameRange.{FrameRange}
 use Rattle.std.specs.Prelude.{if◌then◌else◌}
 use Rattle.memory_structs.proofs.Bools.{if_cases}
-use Rattle.model.specs.Lists.{Slot, unused, used, entries, range_at, remove, remove_one}
+use Rattle.model.specs.Lists.{Slot, unused, used, entries, bound, range_at, remove, remove_one}
 use Rattle.model.specs.Requests.{entries_after}
 use Rattle.model.specs.Store.{table_slots}
 use Rattle.model.proofs.Stored.{Storable, early, sorted, table_length, table_used}
 use Rattle.model.proofs.Whole.{used_count}
-use Rattle.entries.proofs.Forms.{length_removed}
+use Rattle.model.proofs.Ruled.{tidy_is}
+use Rattle.lists.specs.declared.Part.{Part}
+use Rattle.lists.specs.Part.{part_slots, IsTidy}
+use Rattle.lists.proofs.Forms.{length_removed, part_storable}
 use Rattle.request_grants.proofs.Kept.{removed_storable}
 use Rattle.request_search.specs.declared.Chosen.{Chosen}
-use Rattle.request_grants.specs.Grants.{Chooses, entries_left}
+use Rattle.request_grants.specs.Grants.{Chooses, entries_left, cut_in_two, overfull}
 
 -- 1 where something is left over between a and b, else 0
 abbrev pub leftover : ℕ → ℕ → ℕ
@@ -68,6 +71,59 @@ module _ (c : Chosen) (asked : FrameRange) where
       → entries_left b c asked s ≡ length (entries s) - c.many + leftover c.range.start asked.start + leftover asked.end c.range.end
   unfolding entries_left entries_after
   left_is v chosen = omega (arith, taken_out v chosen)
+
+-- only one chunk that is cut in two adds an entry
+module _ (p : Part) (c : Chosen) (asked : FrameRange) (ws : List ℕ) (t : IsTidy p ws) (chosen : Chooses p.sorted (part_slots p ws) c asked) where
+  abbrev slots : List Slot
+  slots = part_slots p ws
+
+  abbrev entries_now : ℕ
+  entries_now = length (entries slots)
+
+  v : Storable p.sorted slots
+  v = part_storable p.sorted p.len ws t.part
+
+  few : entries_now ≤ bound p.sorted
+  few = (tidy_is p.sorted slots t.keeps).few
+
+  no_more : c.many ≤ entries_now
+  no_more = omega (arith, taken_out c asked v chosen)
+
+  abbrev below : ℕ
+  below = leftover c.range.start asked.start
+
+  abbrev above : ℕ
+  above = leftover asked.end c.range.end
+
+  left_now : entries_left p.sorted c asked slots ≡ entries_now - c.many + below + above
+  left_now = left_is c asked v chosen
+
+  fits : entries_now - c.many + below + above ≤ bound p.sorted → false ≡ overfull p.sorted c asked slots
+  fits h = sym (le-ltb _ _ (omega (arith, left_now, h)))
+
+  decided : (x : Bool) → cut_in_two c asked ≡ x → (x && leb (bound p.sorted) entries_now) ≡ overfull p.sorted c asked slots
+  decided x z = ap (λ (y : Bool). y && leb (bound p.sorted) entries_now) (sym z) ∙ go (eqb c.many 1) (eqb c.range.start asked.start) (eqb c.range.end asked.end) (leb (bound p.sorted) entries_now) refl refl refl refl
+    where
+      go : (m q r f : Bool) → eqb c.many 1 ≡ m → eqb c.range.start asked.start ≡ q → eqb c.range.end asked.end ≡ r → leb (bound p.sorted) entries_now ≡ f → ((m && (not q && not r)) && f) ≡ overfull p.sorted c asked slots
+      go true false false true d e f g = sym (lt-ltb _ _ (omega (
+        arith,
+        left_now,
+        no_more,
+        eqb-true _ _ d,
+        leb-true _ _ g,
+        one_leftover c.range.start asked.start (omega (arith, chosen.from, eqb-false _ _ e)),
+        one_leftover asked.end c.range.end (omega (arith, chosen.to, eqb-false _ _ f)),
+      )))
+      go true false false false d e f g = fits (omega (arith, no_more, eqb-true _ _ d, leb-false _ _ g, leftover_bound c.range.start asked.start, leftover_bound asked.end c.range.end))
+      go true false true x d e f g = fits (omega (arith, few, no_more, eqb-true _ _ d, leftover_bound c.range.start asked.start, no_leftover asked.end c.range.end (omega (arith, eqb-true _ _ f))))
+      go true true r x d e f g = fits (omega (arith, few, no_more, eqb-true _ _ d, leftover_bound asked.end c.range.end, no_leftover c.range.start asked.start (omega (arith, eqb-true _ _ e))))
+      go false q r x d e f g = fits (omega (arith, few, no_more, chosen.some, eqb-false _ _ d, leftover_bound c.range.start asked.start, leftover_bound asked.end c.range.end))
+
+  pub cut_fills : cut_in_two c asked ≡ true → leb (bound p.sorted) entries_now ≡ overfull p.sorted c asked slots
+  cut_fills e = decided true e
+
+  pub cut_nowhere : cut_in_two c asked ≡ false → false ≡ overfull p.sorted c asked slots
+  cut_nowhere e = decided false e
 
 -- a table has room for both parts
 pub room_for_two : (len : ℕ) (ws : List ℕ) (c : Chosen) (asked : FrameRange) → len ≤ 512 → Chooses true (table_slots len ws) c asked → c.range.start < asked.start → asked.end < c.range.end

@@ -6,18 +6,12 @@ use Prim.Native.Nat.{ℕ, zero, suc, ◌≤◌}
 use native.Mathlib.Omega.{arith}
 use lib.ListN.{length}
 use Rattle.memory_structs.specs.declared.range.FrameRange.{FrameRange}
-use Rattle.model.specs.Lists.{Slot, entries, insert, remove, remove_one}
+use Rattle.model.specs.Lists.{Slot, insert, remove, remove_one}
 use Rattle.model.specs.Rules.{slotted}
 use Rattle.model.proofs.Cover.{early_length, remove_length}
 use Rattle.model.proofs.Lawful.{Slots, sorted_rising, remove_rising}
 use Rattle.model.proofs.Ruled.{slotted_is, is_slotted}
-use Rattle.model.proofs.Plainly.{fewer_entries}
 use Rattle.model.proofs.Stored.{AllUsed, none, one, Storable, early, sorted}
-
--- no list has more entries than a table
-pub few_entries : {b : Bool} {s : List Slot} → Storable b s → length (entries s) ≤ 512
-few_entries {s = s} (early h) = omega (arith, fewer_entries s)
-few_entries {s = s} (sorted u h) = omega (arith, fewer_entries s)
 
 -- slots taken out
 

@@ -15,7 +15,7 @@ use Rattle.tables.specs.Words.{IsTable}
 use Rattle.tables.proofs.Stores.{is_table}
 use Rattle.tables.proofs.Spaced.{tidy_spaced}
 use Rattle.tables.proofs.Touching.{tidy_rising}
-use Rattle.entries.proofs.Forms.{length_removed, length_replaced, replaced_used}
+use Rattle.lists.proofs.Forms.{length_removed, length_replaced, replaced_used}
 use Rattle.request_grants.proofs.Kept.{removed_slotted, inserted_slotted}
 use Rattle.request_search.specs.declared.Chosen.{Chosen}
 use Rattle.request_grants.specs.Grants.{Chooses, instead, TableOf}

@@ -1,12 +1,12 @@
 -- A grant from chosen chunks. The words in quotes are document 01's.
-use Rattle.std.specs.Prelude.{ℕ, ◌+◌, ◌-◌, ◌≤◌, ◌<◌, ◌≡◌, Bool, true, false, List, Option, Some, None, ◌++◌, length, take, drop, ltb}
+use Rattle.std.specs.Prelude.{ℕ, ◌+◌, ◌-◌, ◌≤◌, ◌<◌, ◌≡◌, Bool, true, false, not, ◌&&◌, List, Option, Some, None, ◌++◌, length, take, drop, ltb, eqb}
 use Rattle.std.specs.Prelude.{if◌then◌else◌}
 use Rattle.memory_structs.specs.Range.{is_empty}
 use Rattle.memory_structs.specs.declared.range.FrameRange.{FrameRange}
 use Rattle.model.specs.Lists.{Slot, range_at, bound, insert}
 use Rattle.model.specs.Requests.{grant_from, entries_after}
 use Rattle.model.specs.Store.{table_words}
-use Rattle.entries.specs.Part.{Stored}
+use Rattle.lists.specs.Part.{Stored}
 use Rattle.request_search.specs.declared.Chosen.{Chosen}
 
 -- the chunks stand in the list from `first` on, and the request lies in the range from the start of the first to the end of the last.
@@ -27,6 +27,10 @@ grant_of sorted c asked s = grant_from sorted c.first c.many c.range asked s
 
 unfoldable pub entries_left : Bool → Chosen → FrameRange → List Slot → ℕ
 entries_left sorted c asked s = entries_after sorted c.first c.many c.range asked s
+
+-- one chunk, with frames left over on both sides
+abbrev pub cut_in_two : Chosen → FrameRange → Bool
+cut_in_two c asked = eqb c.many 1 && (not (eqb c.range.start asked.start) && not (eqb c.range.end asked.end))
 
 -- 18, of one list: "after the call a list would hold more than 32 (early) or 512 (sorted) entries"
 abbrev pub overfull : Bool → Chosen → FrameRange → List Slot → Bool

@@ -9,42 +9,42 @@ ghost use Rattle.model.specs.Rules.{tidy};
 ghost use Rattle.model.specs.Store.{table_slots, slot_words};
 ghost use Rattle.tables.specs.Words.{IsTable};
 ghost use Rattle.pairs.specs.Pairs.{pair_slots, IsPairs};
-ghost use Rattle.entries.specs.Part.{part_slots, IsTidy, Stored};
-ghost use Rattle.entries.specs.Listed.{list_slots};
-ghost use Rattle.request_grants.specs.Grants.{Chooses, grant_of, entries_left, TakesOut, put_left, instead, TableOf};
+ghost use Rattle.lists.specs.Part.{part_slots, IsTidy, Stored};
+ghost use Rattle.lists.specs.Listed.{list_slots};
+ghost use Rattle.request_grants.specs.Grants.{Chooses, grant_of, entries_left, cut_in_two, overfull, TakesOut, put_left, instead, TableOf};
 
-use entries::{List, Part};
+use lists::{List, Part};
 use memory_structs::FrameRange;
 use request_search::Chosen;
 
 // The frames of `asked` leave the chunks that hold them; the answer is the list's length after that. What is left over has no place, and
 // the list stays as it is, where "after the call a list would hold more than 32 (early) or 512 (sorted) entries".
-#[tactic(auto, using(crate::proofs::Placed::without_place, crate::proofs::Placed::with_place))]
+#[tactic(auto, using(crate::proofs::Placed::without_place, crate::proofs::Placed::with_place, crate::proofs::Placed::few_left))]
 pub fn take(part: Part, t: &mut [u64], chosen: Chosen, asked: FrameRange) -> Option<usize>
     requires tidy { IsTidy part t.old }
     requires chooses { Chooses part.sorted (part_slots part t.old) chosen asked }
     ensures { TakesOut part.sorted chosen asked (part_slots part t.old) t.old result t.new }
 {
-    if part.bound() < entries_after(List { part, words: t }, chosen, asked) {
+    if is_overfull(List { part, words: t }, chosen, asked) {
         return None;
     }
     Some(allocate_from_chosen_chunk(part, t, chosen, asked))
 }
 
-// How many entries the list has after the grant.
-#[tactic(auto, using(entries::proofs::Forms::part_storable, crate::proofs::Entries::leftover, crate::proofs::Entries::one_leftover, crate::proofs::Entries::no_leftover, crate::proofs::Entries::leftover_bound, crate::proofs::Entries::taken_out, crate::proofs::Entries::left_is, crate::proofs::Kept::few_entries))]
-fn entries_after(list: List, chosen: Chosen, asked: FrameRange) -> usize
+// Whether the list would hold more entries than it may. Only a chunk that is cut in two adds an entry, so that no other grant counts them.
+#[tactic(auto, using(crate::proofs::Entries::cut_fills, crate::proofs::Entries::cut_nowhere))]
+fn is_overfull(list: List, chosen: Chosen, asked: FrameRange) -> bool
     requires { Chooses list.part.sorted (list_slots list) chosen asked }
-    ensures { result ≡ entries_left list.entry.part.sorted chosen asked (list_slots list.entry) }
+    ensures { result ≡ overfull list.entry.part.sorted chosen asked (list_slots list.entry) }
 {
-    let mut n = list.count() - chosen.many;
-    if chosen.range.start != asked.start {
-        n += 1;
-    }
-    if chosen.range.end != asked.end {
-        n += 1;
-    }
-    n
+    is_cut_in_two(chosen, asked) && list.part.bound() <= list.count()
+}
+
+// Whether one chunk has frames left over on both sides.
+fn is_cut_in_two(chosen: Chosen, asked: FrameRange) -> bool
+    ensures { result ≡ cut_in_two chosen asked }
+{
+    chosen.many == 1 && chosen.range.start != asked.start && chosen.range.end != asked.end
 }
 
 // "Leftovers go back in the same call, before first, then after, unmerged." The answer is the length after that.

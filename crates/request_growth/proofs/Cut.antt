@@ -15,13 +15,13 @@ use Rattle.model.proofs.Lawful.{Lawful, Fit, find_fit}
 use Rattle.model.proofs.Ruled.{tidy_is, rules_lawful}
 use Rattle.model.proofs.Stored.{Storable}
 use Rattle.model.proofs.Whole.{storables}
-use Rattle.entries.specs.declared.header.Header.{Header}
-use Rattle.entries.specs.declared.header.Answered.{Answered}
-use Rattle.entries.specs.declared.header.WhichList.TheVariants.{ReservedFree, ReservedRegions}
-use Rattle.entries.specs.Part.{width, part_words}
-use Rattle.entries.specs.Whole.{lists_in, four, entries_of, with_slots, Ruled, Does}
-use Rattle.entries.proofs.Forms.{stored_size}
-use Rattle.entries.proofs.Again.{lists_again, ruled_again}
+use Rattle.lists.specs.declared.header.Header.{Header}
+use Rattle.lists.specs.declared.header.HandedBack.{HandedBack}
+use Rattle.lists.specs.declared.header.WhichList.TheVariants.{ReservedFree, ReservedRegions}
+use Rattle.lists.specs.Part.{width, part_words}
+use Rattle.lists.specs.Whole.{lists_in, four, entries_of, with_slots, Ruled, Does}
+use Rattle.lists.proofs.Forms.{stored_size}
+use Rattle.lists.proofs.Again.{lists_again, ruled_again}
 use Rattle.request_search.specs.declared.Chosen.{Chosen}
 use Rattle.request_search.proofs.Grown.{TailGrown, tail_grown}
 use Rattle.request_grants.specs.Grants.{Chooses, grant_of, entries_left}
@@ -133,7 +133,7 @@ module _ (h : Header) (ws : List ℕ) (u : Ruled h ws) (from : ℕ) (asked : Fra
         done = with_slots ReservedRegions cut (insert l.sorted g l.reserved_regions)
 
         pub tail_done : {d : Header} {after : List ℕ} → AllStored (with_slots ReservedRegions (lists_in b mid) (insert (lists_in b mid).sorted g (lists_in b mid).reserved_regions)) mid d after →
-            (called : Answered) → called ≡ granted_with r d → Does (grow l g r) ws called after
+            (called : HandedBack) → called ≡ granted_with r d → Does (grow l g r) ws called after
         unfolding with_slots
         tail_done {d = d} {after = after} y called e =
             let z : AllStored done mid d after = subst (λ (q : Lists). AllStored (with_slots ReservedRegions q (insert q.sorted g q.reserved_regions)) mid d after) cut_loads y in

@@ -15,13 +15,13 @@ use Rattle.model.specs.Lists.{Lists, Slot, entries, any_of, insert, bound}
 use Rattle.model.specs.Requests.{Result, not_found, find, entries_after, refused, granted, with_reserved, from_grown, no_room_to_grow, grow}
 use Rattle.model.specs.Rules.{slotted, tidy}
 use Rattle.model.proofs.Ruled.{is_slotted, tidy_is}
-use Rattle.entries.specs.declared.header.Header.{Header}
-use Rattle.entries.specs.declared.header.WhichList.{WhichList}
-use Rattle.entries.specs.declared.header.WhichList.TheVariants.{ReservedFree, ReservedRegions}
-use Rattle.entries.specs.declared.Part.{Part}
-use Rattle.entries.specs.Part.{Stored, width, part_slots}
-use Rattle.entries.specs.Whole.{part_of, part_in, with_length, lists_in, slots_at, with_slots, answered_by, Ruled, Does}
-use Rattle.entries.proofs.Whole.{tidy_list, lent_from, does_refuse}
+use Rattle.lists.specs.declared.header.Header.{Header}
+use Rattle.lists.specs.declared.header.WhichList.{WhichList}
+use Rattle.lists.specs.declared.header.WhichList.TheVariants.{ReservedFree, ReservedRegions}
+use Rattle.lists.specs.declared.Part.{Part}
+use Rattle.lists.specs.Part.{Stored, width, part_slots}
+use Rattle.lists.specs.Whole.{part_of, part_in, with_length, lists_in, slots_at, with_slots, answered_by, Ruled, Does}
+use Rattle.lists.proofs.Whole.{tidy_list, lent_from, does_refuse}
 use Rattle.request_search.proofs.Grown.{whole_grown}
 use Rattle.request_taking.specs.Takes.{AllStored}
 use Rattle.request_taking.proofs.Taken.{lent_stored}

@@ -16,8 +16,8 @@ use Rattle.model.specs.Rules.{tidy}
 use Rattle.model.proofs.Lawful.{Lawful, Holds, Fit, find_fit, one_holds}
 use Rattle.model.proofs.Steps.{take_reserved_holds}
 use Rattle.tables.proofs.Spaced.{tidy_spaced}
-use Rattle.entries.specs.declared.header.WhichList.TheVariants.{ReservedFree, ReservedRegions}
-use Rattle.entries.specs.Whole.{with_slots}
+use Rattle.lists.specs.declared.header.WhichList.TheVariants.{ReservedFree, ReservedRegions}
+use Rattle.lists.specs.Whole.{with_slots}
 use Rattle.request_search.specs.declared.Chosen.{Chosen}
 use Rattle.request_grants.specs.Grants.{Chooses, grant_of, entries_left, instead}
 use Rattle.request_grants.proofs.Grant.{grant_none, grant_before}

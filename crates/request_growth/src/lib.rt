@@ -6,20 +6,20 @@ ghost use Rattle.std.specs.Prelude.{◌≡◌, ◌+◌, ◌-◌, ◌≤◌, ◌<
 ghost use Rattle.memory_structs.specs.Range.{range};
 ghost use Rattle.model.specs.Lists as model;
 ghost use Rattle.model.specs.Requests.{find, not_found, missing, grow, no_room_to_grow};
-ghost use Rattle.entries.specs.declared.header.WhichList.TheVariants.{ReservedFree, ReservedRegions};
-ghost use Rattle.entries.specs.Listed.{lists_of};
-ghost use Rattle.entries.specs.Whole.{lists_in, slots_at, with_slots, answered_by, Ruled, Does};
+ghost use Rattle.lists.specs.declared.header.WhichList.TheVariants.{ReservedFree, ReservedRegions};
+ghost use Rattle.lists.specs.Listed.{lists_of};
+ghost use Rattle.lists.specs.Whole.{lists_in, slots_at, with_slots, answered_by, Ruled, Does};
 ghost use Rattle.request_grants.specs.Grants.{Chooses, grant_of, entries_left};
 ghost use Rattle.request_taking.specs.Takes.{AllStored};
 ghost use Rattle.request_growth.specs.Grows.{growth_check};
 
-use entries::{Answered, FourLists, Header, WhichList};
+use lists::{FourLists, HandedBack, Header, WhichList};
 use memory_structs::FrameRange;
-use model::Refusal;
+use model::{Refusal, SLOTS};
 use request_search::Chosen;
 
 // The whole request is new. It would be a reserved chunk and be granted at once, so that the free list stays as it is.
-pub fn grow_whole(h: Header, lists: &mut [u64], asked: FrameRange) -> Result<Answered, Refusal>
+pub fn grow_whole(h: Header, lists: &mut [u64], asked: FrameRange) -> Result<HandedBack, Refusal>
     requires ruled { Ruled h lists.old }
     requires start_le_end { asked.start ≤ asked.end }
     requires lists_value { find h.sorted asked (lists_in h lists.old).reserved_free ≡ not_found }
@@ -43,7 +43,7 @@ pub fn grow_tail(
     lists: &mut [u64],
     from: u64,
     asked: FrameRange,
-) -> Result<Answered, Refusal>
+) -> Result<HandedBack, Refusal>
     requires ruled { Ruled h lists.old }
     requires start_le_end { asked.start ≤ asked.end }
     requires lists_value { find h.sorted asked (lists_in h lists.old).reserved_free ≡ missing from ((asked.end + 1) - from) }
@@ -72,7 +72,7 @@ pub fn grow_tail(
 }
 
 // Whether the part may become a region: "If that part meets a general region: 13. If it meets a reserved region: 16", and 18.
-#[tactic(auto, using(crate::proofs::Growing::thirteen, crate::proofs::Growing::sixteen, crate::proofs::Growing::eighteen, crate::proofs::Growing::no_refusal), unfolding(entries::specs::Whole::slots_at))]
+#[tactic(auto, using(crate::proofs::Growing::thirteen, crate::proofs::Growing::sixteen, crate::proofs::Growing::eighteen, crate::proofs::Growing::no_refusal), unfolding(lists::specs::Whole::slots_at))]
 fn check_growth(lists: FourLists, part: FrameRange) -> Result<(), Refusal>
     requires { part.start ≤ part.end }
     ensures { result ≡ growth_check part (lists_of lists.entry) }
@@ -90,7 +90,7 @@ fn check_growth(lists: FourLists, part: FrameRange) -> Result<(), Refusal>
 }
 
 // 18: the reserved regions are full, "early growth also when either reserved list has 32 already".
-#[tactic(auto, using(crate::proofs::Growing::full_regions, crate::proofs::Growing::room_sorted, crate::proofs::Growing::room_early), unfolding(entries::specs::Whole::lists_in, entries::specs::Whole::slots_at))]
+#[tactic(auto, using(crate::proofs::Growing::full_regions, crate::proofs::Growing::room_sorted, crate::proofs::Growing::room_early), unfolding(lists::specs::Whole::lists_in, lists::specs::Whole::slots_at))]
 fn no_room_to_grow(lists: FourLists) -> bool
     ensures { result ≡ no_room_to_grow (lists_of lists.entry) }
 {
@@ -101,7 +101,7 @@ fn no_room_to_grow(lists: FourLists) -> bool
     if lists.header.sorted {
         return false;
     }
-    32 <= lists.list(WhichList::ReservedFree).count()
+    SLOTS <= lists.list(WhichList::ReservedFree).count()
 }
 
 // The reserved chunk without the frames of `taken`; the other three lists stay as they are.

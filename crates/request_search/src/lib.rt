@@ -7,10 +7,10 @@ ghost use Rattle.model.specs.Lists.{range_at};
 ghost use Rattle.model.specs.Rules.{rising};
 ghost use Rattle.tables.specs.Slots.{slots};
 ghost use Rattle.model.specs.Requests as model;
-ghost use Rattle.entries.specs.Listed.{list_slots};
+ghost use Rattle.lists.specs.Listed.{list_slots};
 ghost use Rattle.request_search.specs.Searches.{one_chunk, answer_of};
 
-use entries::List;
+use lists::List;
 use memory_structs::FrameRange;
 use model::Refusal;
 use tables::Table;

@@ -9,14 +9,14 @@ use Rattle.std.specs.Prelude.{Option, None, Some}
 use Rattle.memory_structs.specs.declared.range.FrameRange.{FrameRange}
 use Rattle.model.specs.Lists.{Lists, Slot, bound}
 use Rattle.model.specs.Requests.{Result, without_frames, refused, granted, take_general, take_reserved}
-use Rattle.entries.specs.declared.Part.{Part}
-use Rattle.entries.specs.declared.header.WhichList.{WhichList}
-use Rattle.entries.specs.declared.header.WhichList.TheVariants.{GeneralFree, ReservedFree}
-use Rattle.entries.specs.declared.header.Header.{Header}
-use Rattle.entries.specs.declared.header.Answered.{Answered}
-use Rattle.entries.specs.Part.{Stored, width, part_slots}
-use Rattle.entries.specs.Whole.{part_of, part_in, with_length, lists_in, slots_at, with_slots, header_of, entries_of, Ruled, Does, answered_with}
-use Rattle.entries.proofs.Whole.{lent_as, lent_from, lent_back, same_part, does_refuse}
+use Rattle.lists.specs.declared.Part.{Part}
+use Rattle.lists.specs.declared.header.WhichList.{WhichList}
+use Rattle.lists.specs.declared.header.WhichList.TheVariants.{GeneralFree, ReservedFree}
+use Rattle.lists.specs.declared.header.Header.{Header}
+use Rattle.lists.specs.declared.header.HandedBack.{HandedBack}
+use Rattle.lists.specs.Part.{Stored, width, part_slots}
+use Rattle.lists.specs.Whole.{part_of, part_in, with_length, lists_in, slots_at, with_slots, header_of, entries_of, Ruled, Does, handed_with}
+use Rattle.lists.proofs.Whole.{lent_as, lent_from, lent_back, same_part, does_refuse}
 use Rattle.request_search.specs.declared.Chosen.{Chosen}
 use Rattle.request_grants.specs.Grants.{Chooses, grant_of, entries_left, TakesOut}
 use Rattle.request_taking.specs.Takes.{taken, granted_with, AllStored}
@@ -32,12 +32,12 @@ module _ (c : Chosen) (asked : FrameRange) (l : Lists) where
   reserved_taken = refl
 
 -- a grant answers its range
-pub does_grant : {l : Lists} {ws : List ℕ} {h : Header} {after : List ℕ} (asked : FrameRange) (d : Answered) → d ≡ granted_with asked h → AllStored l ws h after
+pub does_grant : {l : Lists} {ws : List ℕ} {h : Header} {after : List ℕ} (asked : FrameRange) (d : HandedBack) → d ≡ granted_with asked h → AllStored l ws h after
     → (r : Result) → r ≡ granted asked l → Does r ws d after
 unfolding granted
 does_grant {ws = ws} asked d e st r o = record {
-  answers = ap (λ (x : Answered). x.answer) e ∙ sym (ap (λ (x : Result). x.answer) o);
-  header = ap (λ (x : Answered). x.header) e ∙ st.header ∙ sym (ap (λ (x : Result). header_of x.lists) o);
+  answers = ap (λ (x : HandedBack). x.answer) e ∙ sym (ap (λ (x : Result). x.answer) o);
+  header = ap (λ (x : HandedBack). x.header) e ∙ st.header ∙ sym (ap (λ (x : Result). header_of x.lists) o);
   words = st.words ∙ sym (ap (λ (x : Result). entries_of x.lists ws) o);
 }
 
@@ -74,13 +74,13 @@ module _ (h : Header) (ws : List ℕ) (u : Ruled h ws) (w : WhichList) (c : Chos
     here : TakesOut h.sorted c asked slots lent r after
     here = lent_from h ws u w q f t (λ b s. TakesOut b c asked s lent r after) x
 
-    pub does_not_take : r ≡ None → Does (taken w c asked (lists_in h ws)) ws (answered_with (without_frames 18 0) h) (put_mid from (to - from) ws after)
+    pub does_not_take : r ≡ None → Does (taken w c asked (lists_in h ws)) ws (handed_with (without_frames 18 0) h) (put_mid from (to - from) ws after)
     does_not_take e =
         let z = subst (λ (o : Option ℕ). TakesOut h.sorted c asked slots lent o after) e here in
-        subst (Does (taken w c asked (lists_in h ws)) ws (answered_with (without_frames 18 0) h)) (sym (ap (put_mid from (to - from) ws) z.1 ∙ same_part from (to - from) ws))
+        subst (Does (taken w c asked (lists_in h ws)) ws (handed_with (without_frames 18 0) h)) (sym (ap (put_mid from (to - from) ws) z.1 ∙ same_part from (to - from) ws))
         (does_refuse h ws u 18 _ (no_place_holds w c asked h ws (ltb-true _ _ z.0)))
 
-    pub does_take : (n : ℕ) → r ≡ Some n → (d : Answered) → d ≡ granted_with asked (with_length w h n) → Does (taken w c asked (lists_in h ws)) ws d (put_mid from (to - from) ws after)
+    pub does_take : (n : ℕ) → r ≡ Some n → (d : HandedBack) → d ≡ granted_with asked (with_length w h n) → Does (taken w c asked (lists_in h ws)) ws d (put_mid from (to - from) ws after)
     does_take n e d y =
         let z = subst (λ (o : Option ℕ). TakesOut h.sorted c asked slots lent o after) e here in
         does_grant asked d y (lent_stored h ws u w f t _ n after z.1) _ (some_place w c asked h ws (ltb-false _ _ z.0))

@@ -4,10 +4,10 @@ use Rattle.std.specs.Prelude.{if◌then◌else◌}
 use Rattle.memory_structs.specs.declared.range.FrameRange.{FrameRange}
 use Rattle.model.specs.Lists.{Lists, bound}
 use Rattle.model.specs.Requests.{Result, granted_answer, refused, granted}
-use Rattle.entries.specs.declared.header.WhichList.{WhichList}
-use Rattle.entries.specs.declared.header.Header.{Header}
-use Rattle.entries.specs.declared.header.Answered.{Answered}
-use Rattle.entries.specs.Whole.{slots_at, with_slots, header_of, entries_of, answered_with}
+use Rattle.lists.specs.declared.header.WhichList.{WhichList}
+use Rattle.lists.specs.declared.header.Header.{Header}
+use Rattle.lists.specs.declared.header.HandedBack.{HandedBack}
+use Rattle.lists.specs.Whole.{slots_at, with_slots, header_of, entries_of, handed_with}
 use Rattle.request_search.specs.declared.Chosen.{Chosen}
 use Rattle.request_grants.specs.Grants.{grant_of, entries_left}
 
@@ -19,8 +19,8 @@ taken w c asked l =
     granted asked (with_slots w l (grant_of l.sorted c asked (slots_at w l)))
 
 -- "An accepted call returns number 0, the granted range [..], frame 0", and count 0
-abbrev pub granted_with : FrameRange → Header → Answered
-granted_with r h = answered_with (granted_answer r) h
+abbrev pub granted_with : FrameRange → Header → HandedBack
+granted_with r h = handed_with (granted_answer r) h
 
 -- a header and entries store the lists: the lengths, and every word
 pub record AllStored (l : Lists) (before : List ℕ) (h : Header) (after : List ℕ) : Type 0 where

@@ -15,9 +15,9 @@ use Rattle.model.specs.Lists.{Lists}
 use Rattle.model.specs.Requests.{Result, find, refused, refused_missing, frames_of, in_reserved, by_address, by_address_bytes, only_general, by_address_general}
 use Rattle.model.specs.declared.refusals.Refusal.{Refusal}
 use Rattle.model.specs.declared.refusals.Refusal.TheVariants.{NoFrames, OutOfBounds, Missing}
-use Rattle.entries.specs.declared.header.Header.{Header}
-use Rattle.entries.specs.Whole.{lists_in, answered_by, Ruled, Does}
-use Rattle.entries.proofs.Whole.{does_refuse, does_leave}
+use Rattle.lists.specs.declared.header.Header.{Header}
+use Rattle.lists.specs.Whole.{lists_in, answered_by, Ruled, Does}
+use Rattle.lists.proofs.Whole.{does_refuse, does_leave}
 use Rattle.requests.specs.Asks.{asked_range}
 
 -- 1 and 2

@@ -11,7 +11,7 @@ use Rattle.std.specs.Prelude.{Option}
 use Rattle.std.specs.Prelude.{None, Some}
 use Rattle.model.specs.Requests.{refused, take_general, from_place, large_enough, by_count, frames_of, by_bytes}
 use Rattle.model.specs.Rules.{tidy}
-use Rattle.entries.specs.declared.header.WhichList.TheVariants.{GeneralFree}
+use Rattle.lists.specs.declared.header.WhichList.TheVariants.{GeneralFree}
 use Rattle.request_search.specs.declared.Chosen.{Chosen}
 use Rattle.request_grants.specs.Grants.{Chooses}
 use Rattle.request_grants.proofs.Chosen.{place_chooses, place_low}

@@ -14,10 +14,10 @@ use Rattle.model.specs.declared.refusals.Refusal.{Refusal}
 use Rattle.model.specs.declared.refusals.Refusal.TheVariants.{NotFound, Missing, TooShort}
 use Rattle.model.proofs.Lawful.{Fit, find_fit}
 use Rattle.model.proofs.Ruled.{tidy_is}
-use Rattle.entries.specs.declared.header.Header.{Header}
-use Rattle.entries.specs.Whole.{lists_in, answered_by, Ruled, Does}
-use Rattle.entries.proofs.Whole.{does_refuse}
-use Rattle.entries.specs.declared.header.WhichList.TheVariants.{GeneralFree, ReservedFree}
+use Rattle.lists.specs.declared.header.Header.{Header}
+use Rattle.lists.specs.Whole.{lists_in, answered_by, Ruled, Does}
+use Rattle.lists.proofs.Whole.{does_refuse}
+use Rattle.lists.specs.declared.header.WhichList.TheVariants.{GeneralFree, ReservedFree}
 use Rattle.request_search.specs.Searches.{answer_of}
 use Rattle.request_search.specs.declared.Chosen.{Chosen}
 use Rattle.request_taking.specs.Takes.{taken}

@@ -2,22 +2,22 @@
 ghost use Rattle.std.specs.Prelude.{◌≡◌, ◌+◌, ◌%◌, ◌≤◌};
 ghost use Rattle.memory_structs.specs.Range.{address_limit, frame_size};
 ghost use Rattle.model.specs.Requests.{frames_of, find, not_found, in_reserved, by_address, by_address_bytes, by_address_general};
-ghost use Rattle.entries.specs.Whole.{lists_in, answered_by, Ruled, Does};
+ghost use Rattle.lists.specs.Whole.{lists_in, answered_by, Ruled, Does};
 ghost use Rattle.requests.specs.Asks.{asked_range};
 
 use crate::by_count::frames_of;
-use entries::{Answered, FourLists, Header, WhichList};
+use lists::{FourLists, HandedBack, Header, WhichList};
 use memory_structs::{ADDRESS_LIMIT, FRAME_SIZE, FrameRange};
 use model::Refusal;
 
 // "Address, whole: the reserved list first."
-#[tactic(auto, using(crate::proofs::Asked::some_frames, crate::proofs::Searched::said_not), unfolding(entries::specs::Whole::lists_in, entries::specs::Whole::slots_at))]
+#[tactic(auto, using(crate::proofs::Asked::some_frames, crate::proofs::Searched::said_not), unfolding(lists::specs::Whole::lists_in, lists::specs::Whole::slots_at))]
 pub fn frames_at(
     h: Header,
     lists: &mut [u64],
     frame: u64,
     num_frames: u64,
-) -> Result<Answered, Refusal>
+) -> Result<HandedBack, Refusal>
     requires { Ruled h lists.old }
     ensures { Does (by_address frame num_frames (lists_in h lists.old)) lists.old (answered_by h result) lists.new }
 {
@@ -34,13 +34,13 @@ pub fn frames_at(
     }
 }
 
-#[tactic(auto, using(entries::proofs::Whole::does_as, crate::proofs::Asked::address_bytes_on))]
+#[tactic(auto, using(lists::proofs::Whole::does_as, crate::proofs::Asked::address_bytes_on))]
 pub fn bytes_at(
     h: Header,
     lists: &mut [u64],
     address: u64,
     num_bytes: u64,
-) -> Result<Answered, Refusal>
+) -> Result<HandedBack, Refusal>
     requires { Ruled h lists.old }
     ensures { Does (by_address_bytes address num_bytes (lists_in h lists.old)) lists.old (answered_by h result) lists.new }
 {
@@ -70,7 +70,7 @@ pub fn general_frames_at(
     lists: &mut [u64],
     frame: u64,
     num_frames: u64,
-) -> Result<Answered, Refusal>
+) -> Result<HandedBack, Refusal>
     requires { Ruled h lists.old }
     ensures { Does (by_address_general frame num_frames (lists_in h lists.old)) lists.old (answered_by h result) lists.new }
 {
@@ -84,8 +84,8 @@ pub fn general_frames_at(
 }
 
 // "On *not found*, the general list; there *missing* gives 12. On *not found* twice take the whole request".
-#[tactic(auto, using(entries::proofs::Whole::does_as, crate::proofs::Searched::said_not, crate::proofs::Searched::general_not), unfolding(entries::specs::Whole::lists_in, entries::specs::Whole::slots_at))]
-fn in_general_list(h: Header, lists: &mut [u64], asked: FrameRange) -> Result<Answered, Refusal>
+#[tactic(auto, using(lists::proofs::Whole::does_as, crate::proofs::Searched::said_not, crate::proofs::Searched::general_not), unfolding(lists::specs::Whole::lists_in, lists::specs::Whole::slots_at))]
+fn in_general_list(h: Header, lists: &mut [u64], asked: FrameRange) -> Result<HandedBack, Refusal>
     requires ruled { Ruled h lists.old }
     requires start_le_end { asked.start ≤ asked.end }
     requires lists_value { find h.sorted asked (lists_in h lists.old).reserved_free ≡ not_found }

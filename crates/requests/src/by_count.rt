@@ -1,15 +1,15 @@
 // Requests by count: so many general frames, wherever they are. Document 01, "How a request is met".
 ghost use Rattle.std.specs.Prelude.{◌≡◌};
 ghost use Rattle.model.specs.Requests.{by_count, by_bytes, frames_of};
-ghost use Rattle.entries.specs.Whole.{lists_in, answered_by, Ruled, Does};
+ghost use Rattle.lists.specs.Whole.{lists_in, answered_by, Ruled, Does};
 
-use entries::{Answered, FourLists, Header, WhichList};
+use lists::{FourLists, HandedBack, Header, WhichList};
 use memory_structs::{ADDRESS_LIMIT, FRAME_SIZE, FrameRange};
 use model::Refusal;
 use request_search::Chosen;
 
 // "Count: early form takes the first slot that is large enough, sorted form the highest chunk; the grant is that chunk's beginning."
-pub fn count_frames(h: Header, lists: &mut [u64], num_frames: u64) -> Result<Answered, Refusal>
+pub fn count_frames(h: Header, lists: &mut [u64], num_frames: u64) -> Result<HandedBack, Refusal>
     requires { Ruled h lists.old }
     ensures { Does (by_count num_frames (lists_in h lists.old)) lists.old (answered_by h result) lists.new }
 {
@@ -32,8 +32,8 @@ pub fn count_frames(h: Header, lists: &mut [u64], num_frames: u64) -> Result<Ans
 }
 
 // "Bytes: add to the bytes the remainder of the address by 4096 (0 where no address is named), divide by 4096, round up."
-#[tactic(auto, using(entries::proofs::Whole::does_as, crate::proofs::Counted::bytes_on))]
-pub fn count_bytes(h: Header, lists: &mut [u64], num_bytes: u64) -> Result<Answered, Refusal>
+#[tactic(auto, using(lists::proofs::Whole::does_as, crate::proofs::Counted::bytes_on))]
+pub fn count_bytes(h: Header, lists: &mut [u64], num_bytes: u64) -> Result<HandedBack, Refusal>
     requires { Ruled h lists.old }
     ensures { Does (by_bytes num_bytes (lists_in h lists.old)) lists.old (answered_by h result) lists.new }
 {

@@ -3,7 +3,7 @@
 #![tactic(auto)]
 
 ghost use Rattle.model.specs.Calls.{answer};
-ghost use Rattle.entries.specs.Whole.{lists_in, answered_by, Ruled, Does};
+ghost use Rattle.lists.specs.Whole.{lists_in, answered_by, Ruled, Does};
 ghost use Rattle.requests.specs.Asked.{call_of};
 
 mod by_address;
@@ -11,7 +11,7 @@ mod by_count;
 
 pub use by_address::{bytes_at, frames_at, general_frames_at};
 pub use by_count::{count_bytes, count_frames};
-use entries::{Answered, Header};
+use lists::{HandedBack, Header};
 use model::Refusal;
 
 // What is asked for.
@@ -28,8 +28,8 @@ pub enum Request {
 }
 
 // As what is asked for is met.
-#[tactic(auto, using(entries::proofs::Whole::does_as), unfolding(model::specs::Calls::answer))]
-pub fn meet_request(h: Header, lists: &mut [u64], request: Request) -> Result<Answered, Refusal>
+#[tactic(auto, using(lists::proofs::Whole::does_as), unfolding(model::specs::Calls::answer))]
+pub fn meet_request(h: Header, lists: &mut [u64], request: Request) -> Result<HandedBack, Refusal>
     requires { Ruled h lists.old }
     ensures { Does (answer (call_of request) (lists_in h lists.old)) lists.old (answered_by h result) lists.new }
 {

@@ -21,8 +21,8 @@ use Rattle.tables.specs.Words.{IsTable}
 use Rattle.tables.proofs.Search.{leb_same}
 use Rattle.model.specs.Store.{slot_words, length_in}
 use Rattle.pairs.specs.Pairs.{pair_slots}
-use Rattle.entries.specs.Part.{slots_in, part_words}
-use Rattle.entries.proofs.Forms.{at_sorted, at_early, length_replaced, replaced_used}
+use Rattle.lists.specs.Part.{pairs_in, part_words}
+use Rattle.lists.proofs.Forms.{at_sorted, at_early, length_replaced, replaced_used}
 use Rattle.return_joining.specs.Rejoins.{GoesBack}
 
 -- a pair that a search answers is one of the table's
@@ -85,9 +85,9 @@ module _ (r : FrameRange) (n : ℕ) (ws : List ℕ) (t : IsTable n ws) where
 
 -- "Early: first empty slot."
 module _ (r : FrameRange) (ws : List ℕ) where
-  pub slots_full : 32 ≤ length (entries (pair_slots 32 ws)) → GoesBack false r (pair_slots 32 ws) ws None ws
+  pub slots_full : 32 ≤ length (entries (pair_slots 32 ws)) → {after : List ℕ} → after ≡ ws → GoesBack false r (pair_slots 32 ws) ws None after
   unfolding no_place bound
-  slots_full h = (le-leb 32 (length (entries (pair_slots 32 ws))) h, refl)
+  slots_full h same = (le-leb 32 (length (entries (pair_slots 32 ws))) h, same)
 
   pub slot_added : length (entries (pair_slots 32 ws)) < 32 → {after : List ℕ} → after ≡ slot_words (insert_early r (pair_slots 32 ws)) → GoesBack false r (pair_slots 32 ws) ws (Some 0) after
   unfolding no_place bound given insert length_in part_words
@@ -95,8 +95,8 @@ module _ (r : FrameRange) (ws : List ℕ) where
 
 -- the form that the list has
 module _ (r : FrameRange) (n : ℕ) (ws : List ℕ) (after : List ℕ) (g : Option ℕ) {b : Bool} where
-  pub by_table : b ≡ true → GoesBack true r (table_slots n ws) ws g after → GoesBack b r (slots_in b n ws) ws g after
+  pub by_table : b ≡ true → GoesBack true r (table_slots n ws) ws g after → GoesBack b r (pairs_in b n ws) ws g after
   by_table e x = subst (λ (y : Bool × List Slot). GoesBack y.0 r y.1 ws g after) (sym (at_sorted (λ c s. (c, s)) n ws e)) x
 
-  pub by_slots : b ≡ false → GoesBack false r (pair_slots 32 ws) ws g after → GoesBack b r (slots_in b n ws) ws g after
+  pub by_slots : b ≡ false → GoesBack false r (pair_slots 32 ws) ws g after → GoesBack b r (pairs_in b n ws) ws g after
   by_slots e x = subst (λ (y : Bool × List Slot). GoesBack y.0 r y.1 ws g after) (sym (at_early (λ c s. (c, s)) n ws e)) x

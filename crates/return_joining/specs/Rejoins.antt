@@ -3,7 +3,7 @@ use Rattle.std.specs.Prelude.{ℕ, ◌≡◌, Bool, true, false, List, Option, S
 use Rattle.memory_structs.specs.declared.range.FrameRange.{FrameRange}
 use Rattle.model.specs.Lists.{Slot}
 use Rattle.model.specs.Returns.{given, no_place}
-use Rattle.entries.specs.Part.{Stored}
+use Rattle.lists.specs.Part.{Stored}
 
 -- 18: a list without a place for the range stays as it is; else its part stores what the model says, and its length is answered
 abbrev pub GoesBack : Bool → FrameRange → List Slot → List ℕ → Option ℕ → List ℕ → Type 0

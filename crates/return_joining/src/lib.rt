@@ -10,12 +10,12 @@ ghost use Rattle.model.specs.Rules.{tidy};
 ghost use Rattle.model.specs.Store.{table_slots};
 ghost use Rattle.tables.specs.Words.{IsTable};
 ghost use Rattle.pairs.specs.Pairs.{pair_slots, IsPairs};
-ghost use Rattle.entries.specs.Part.{part_slots, IsTidy};
+ghost use Rattle.lists.specs.Part.{part_slots, IsTidy};
 ghost use Rattle.return_joining.specs.Rejoins.{GoesBack};
 
-use entries::Part;
+use lists::Part;
 use memory_structs::FrameRange;
-use pairs::Slots;
+use model::ENTRIES;
 use tables::Table;
 
 // "Early: first empty slot. Sorted: joined to a touching chunk above; only where there is none, to one touching below; never to both."
@@ -36,10 +36,9 @@ fn add_slot(t: &mut [u64], range: FrameRange) -> Option<usize>
     requires { IsPairs t.old }
     ensures { GoesBack false range (pair_slots 32 t.old) t.old result t.new }
 {
-    if 32 <= Slots::new(t).count() {
+    if !pairs::insert(t, range) {
         return None;
     }
-    pairs::insert(t, range);
     Some(0)
 }
 
@@ -78,7 +77,7 @@ fn add_pair(t: &mut [u64], len: usize, range: FrameRange) -> Option<usize>
     requires t_value_2 { given true range (table_slots len t.old) ≡ model.insert true range (table_slots len t.old) }
     ensures { GoesBack true range (table_slots len t.old) t.old result t.new }
 {
-    if 512 <= len {
+    if ENTRIES <= len {
         return None;
     }
     tables::insert(t, len, range);

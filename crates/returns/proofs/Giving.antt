@@ -14,14 +14,14 @@ use Rattle.memory_structs.proofs.Bools.{if_cases}
 use Rattle.model.specs.Lists.{Lists, Slot, entries, any_of, in_union}
 use Rattle.model.specs.Requests.{Result, without_frames, refused, counted}
 use Rattle.model.specs.Returns.{given, no_place, give_general, give_reserved, give_back}
-use Rattle.entries.specs.declared.Part.{Part}
-use Rattle.entries.specs.declared.header.WhichList.{WhichList}
-use Rattle.entries.specs.declared.header.WhichList.TheVariants.{GeneralFree, ReservedFree}
-use Rattle.entries.specs.declared.header.Header.{Header}
-use Rattle.entries.specs.declared.header.Answered.{Answered}
-use Rattle.entries.specs.Part.{width, part_slots}
-use Rattle.entries.specs.Whole.{part_of, part_in, with_length, lists_in, slots_at, with_slots, Ruled, Does, answered_with}
-use Rattle.entries.proofs.Whole.{lent_from, lent_back, same_part, does_refuse}
+use Rattle.lists.specs.declared.Part.{Part}
+use Rattle.lists.specs.declared.header.WhichList.{WhichList}
+use Rattle.lists.specs.declared.header.WhichList.TheVariants.{GeneralFree, ReservedFree}
+use Rattle.lists.specs.declared.header.Header.{Header}
+use Rattle.lists.specs.declared.header.HandedBack.{HandedBack}
+use Rattle.lists.specs.Part.{width, part_slots}
+use Rattle.lists.specs.Whole.{part_of, part_in, with_length, lists_in, slots_at, with_slots, Ruled, Does, handed_with}
+use Rattle.lists.proofs.Whole.{lent_from, lent_back, same_part, does_refuse}
 use Rattle.return_joining.specs.Rejoins.{GoesBack}
 use Rattle.returns.specs.Given.{any_free, given_to}
 
@@ -101,14 +101,14 @@ module _ (r : FrameRange) (h : Header) (ws : List ℕ) (u : Ruled h ws) (w : Whi
     here : GoesBack h.sorted r slots lent g after
     here = lent_from h ws u w q f t (λ b s. GoesBack b r s lent g after) x
 
-    pub no_place_holds : g ≡ None → Does (given_to w r (lists_in h ws)) ws (answered_with (without_frames 18 0) h) (put_mid from (to - from) ws after)
+    pub no_place_holds : g ≡ None → Does (given_to w r (lists_in h ws)) ws (handed_with (without_frames 18 0) h) (put_mid from (to - from) ws after)
     unfolding given_to lists_in
     no_place_holds e =
         let z = subst (λ (o : Option ℕ). GoesBack h.sorted r slots lent o after) e here in
-        subst (Does (given_to w r (lists_in h ws)) ws (answered_with (without_frames 18 0) h)) (sym (ap (put_mid from (to - from) ws) z.1 ∙ same_part from (to - from) ws))
+        subst (Does (given_to w r (lists_in h ws)) ws (handed_with (without_frames 18 0) h)) (sym (ap (put_mid from (to - from) ws) z.1 ∙ same_part from (to - from) ws))
         (does_refuse h ws u 18 _ (rw z.0))
 
-    pub a_place : (n : ℕ) → g ≡ Some n → (d : Answered) → d ≡ answered_with (without_frames 0 0) (with_length w h n) → Does (given_to w r (lists_in h ws)) ws d (put_mid from (to - from) ws after)
+    pub a_place : (n : ℕ) → g ≡ Some n → (d : HandedBack) → d ≡ handed_with (without_frames 0 0) (with_length w h n) → Does (given_to w r (lists_in h ws)) ws d (put_mid from (to - from) ws after)
     unfolding given_to lists_in counted
     a_place n e d y =
         let z = subst (λ (o : Option ℕ). GoesBack h.sorted r slots lent o after) e here in

@@ -13,14 +13,21 @@ use Rattle.model.specs.Store.{Arrays, slots_in, slots_of, emptied, stored_in, st
 use Rattle.model.specs.Calls.{keeps_rules}
 use Rattle.model.specs.declared.EarlyList.{EarlyList}
 use Rattle.model.specs.declared.FrameAllocator.{FrameAllocator}
+use Rattle.tables.specs.Slots.{slots}
+use Rattle.tables.specs.declared.Table.{Table}
 use Rattle.pairs.specs.Pairs.{pair_slots}
-use Rattle.entries.specs.Whole.{part_at}
-use Rattle.entries.proofs.Whole.{first_is, second_is, third_is, fourth_is}
-use Rattle.packing.specs.Packed.{packed}
-use Rattle.packing.proofs.Turns.{pairs_of, pairs_64}
-use Rattle.early_rules.specs.Slot.{plain}
-use Rattle.early_rules.proofs.Stored.{plain_pairs, plain_stored, tidy_plain}
-use Rattle.rules.specs.Check.{agree, lists_agree, plain_list, plain_record, slot_lists}
+use Rattle.pairs.proofs.Pairs.{pairs_length}
+use Rattle.pairs.specs.Ordered.{in_order}
+use Rattle.model.specs.Requests.{counted}
+use Rattle.model.specs.Returns.{sort}
+use Rattle.model.proofs.Sorted.{sorted_rules}
+use Rattle.lists.specs.Whole.{part_at}
+use Rattle.lists.proofs.Whole.{first_is, second_is, third_is, fourth_is}
+use Rattle.lists.specs.Packed.{packed}
+use Rattle.lists.proofs.Turns.{pairs_of, pairs_64}
+use Rattle.rules_early.specs.Slot.{plain}
+use Rattle.rules_early.proofs.Stored.{plain_pairs, plain_stored, tidy_plain}
+use Rattle.rules.specs.Check.{agree, lists_agree, each_tidy, tables_of, TidyTables, plain_list, plain_record, slot_lists}
 
 -- one list
 module _ (e : EarlyList) (n : ℕ) (ws : List ℕ) where
@@ -75,7 +82,7 @@ module _ (a : FrameAllocator) where
     abbrev S₃ : Bool
     S₃ = stored_in false a.reserved_regions a.reserved_regions_len (part 3072 ws)
 
-    keeps_early : a.sorted ≡ false → keeps_rules a ws ≡ (((S₀ && S₁) && (S₂ && S₃)) && rules (early_lists a))
+    keeps_early : a.sorted ≡ 0 → keeps_rules a ws ≡ (((S₀ && S₁) && (S₂ && S₃)) && rules (early_lists a))
     unfolding keeps_rules store_rules load slots_in
     keeps_early e = rw e
 
@@ -98,7 +105,7 @@ module _ (a : FrameAllocator) where
     not_plain : plain_record a ≡ false → (((S₀ && S₁) && (S₂ && S₃)) && rules (early_lists a)) ≡ false
     not_plain p = not_both ((S₀ && S₁) && (S₂ && S₃)) (rules (early_lists a)) (λ h k. true≢false (sym (all_plain h k) ∙ p))
 
-    pub slots_broken : a.sorted ≡ false → plain_record a ≡ false → false ≡ keeps_rules a ws
+    pub slots_broken : a.sorted ≡ 0 → plain_record a ≡ false → false ≡ keeps_rules a ws
     slots_broken e p = sym (keeps_early e ∙ not_plain p)
 
   module _ (s₀ : Arrays a.general_free) (s₁ : Arrays a.reserved_free) (s₂ : Arrays a.general_regions) (s₃ : Arrays a.reserved_regions) where
@@ -146,30 +153,18 @@ module _ (a : FrameAllocator) where
           (list_stored a.reserved_regions a.reserved_regions_len (part 3072 ws) s₃ (both_second P₂ P₃ regions))
 
       -- so the record is tested on its slots and then on its pairs
-      pub early_holds : a.sorted ≡ false → keeps_rules a ws ≡ (plain_record a && rules (slot_lists (packed a)))
+      pub early_holds : a.sorted ≡ 0 → keeps_rules a ws ≡ (plain_record a && rules (slot_lists (packed a)))
       early_holds e = keeps_early ws e ∙ go (plain_record a) refl
         where
           go : (b : Bool) → plain_record a ≡ b → (((S₀ ws && S₁ ws) && (S₂ ws && S₃ ws)) && rules (early_lists a)) ≡ (b && rules (slot_lists (packed a)))
           go true p = rw (all_stored p) (ap rules (sym (lists_are p)))
           go false p = not_plain ws p
 
-      pub slots_are : a.sorted ≡ false → plain_record a ≡ true → rules (slot_lists (packed a)) ≡ keeps_rules a ws
+      pub slots_are : a.sorted ≡ 0 → plain_record a ≡ true → rules (slot_lists (packed a)) ≡ keeps_rules a ws
       slots_are e p = rw (early_holds e, p)
 
--- the rules of four lists of pairs, one after the other
-module _ (ws : List ℕ) where
-  abbrev T₀ : Bool
-  T₀ = tidy false (slot_lists ws).general_free
-
-  abbrev T₁ : Bool
-  T₁ = tidy false (slot_lists ws).reserved_free
-
-  abbrev T₂ : Bool
-  T₂ = tidy false (slot_lists ws).general_regions
-
-  abbrev T₃ : Bool
-  T₃ = tidy false (slot_lists ws).reserved_regions
-
+-- The rules of four lists, each by itself, and then one beside another.
+module _ (l : Lists) where
   untidy : (b c d e x : Bool) → ((b && c) && (d && e)) ≡ false → false ≡ ((b && c) && ((d && e) && x))
   untidy true true true true x h = absurd (true≢false h)
   untidy true true true false x h = refl
@@ -177,10 +172,38 @@ module _ (ws : List ℕ) where
   untidy true false d e x h = refl
   untidy false c d e x h = refl
 
-  pub one_untidy : ((T₀ && T₁) && (T₂ && T₃)) ≡ false → false ≡ rules (slot_lists ws)
-  unfolding rules agree
-  one_untidy h = untidy T₀ T₁ T₂ T₃ (lists_agree (slot_lists ws)) h
+  tidied : (b c d e x : Bool) → ((b && c) && (d && e)) ≡ true → x ≡ ((b && c) && ((d && e) && x))
+  tidied true true true true x h = refl
+  tidied true true true false x h = absurd (true≢false (sym h))
+  tidied true true false e x h = absurd (true≢false (sym h))
+  tidied true false d e x h = absurd (true≢false (sym h))
+  tidied false c d e x h = absurd (true≢false (sym h))
 
-  pub slots_decide : T₀ ≡ true → T₁ ≡ true → T₂ ≡ true → T₃ ≡ true → lists_agree (slot_lists ws) ≡ rules (slot_lists ws)
-  unfolding rules agree
-  slots_decide p q r s = rw (p, q, r, s)
+  pub one_untidy : each_tidy l ≡ false → false ≡ rules l
+  unfolding rules agree each_tidy
+  one_untidy h = untidy (tidy l.sorted l.general_free) (tidy l.sorted l.reserved_free) (tidy l.sorted l.general_regions) (tidy l.sorted l.reserved_regions) (lists_agree l) h
+
+  pub all_tidy : each_tidy l ≡ true → lists_agree l ≡ rules l
+  unfolding rules agree each_tidy
+  all_tidy h = tidied (tidy l.sorted l.general_free) (tidy l.sorted l.reserved_free) (tidy l.sorted l.general_regions) (tidy l.sorted l.reserved_regions) (lists_agree l) h
+
+pub tidy_tables : {gf rf gr rr : Table} → each_tidy (tables_of gf rf gr rr) ≡ true → TidyTables gf rf gr rr
+unfolding each_tidy
+tidy_tables {gf} {rf} {gr} {rr} h =
+    let free = both_first (tidy true (slots gf) && tidy true (slots rf)) (tidy true (slots gr) && tidy true (slots rr)) h in
+    let regions = both_second (tidy true (slots gf) && tidy true (slots rf)) (tidy true (slots gr) && tidy true (slots rr)) h in
+    record {
+      general_free = both_first (tidy true (slots gf)) (tidy true (slots rf)) free;
+      reserved_free = both_second (tidy true (slots gf)) (tidy true (slots rf)) free;
+      general_regions = both_first (tidy true (slots gr)) (tidy true (slots rr)) regions;
+      reserved_regions = both_second (tidy true (slots gr)) (tidy true (slots rr)) regions;
+    }
+
+-- put in order, four lists of pairs keep the rules just where they did
+pub ordered_ruled : (ws : List ℕ) {a b c d : List Slot} → a ≡ in_order (pair_slots 32 (part_at 64 0 ws)) → b ≡ in_order (pair_slots 32 (part_at 64 64 ws)) → c ≡ in_order (pair_slots 32 (part_at 64 128 ws))
+    → d ≡ in_order (pair_slots 32 (part_at 64 192 ws)) → rules (record { sorted = true; general_free = a; reserved_free = b; general_regions = c; reserved_regions = d }) ≡ rules (slot_lists ws)
+unfolding sort counted
+ordered_ruled ws p q r s =
+    (λ i. rules (record { sorted = true; general_free = p i; reserved_free = q i; general_regions = r i; reserved_regions = s i }))
+    ∙ sorted_rules (pair_slots 32 (part_at 64 0 ws)) (pair_slots 32 (part_at 64 64 ws)) (pair_slots 32 (part_at 64 128 ws)) (pair_slots 32 (part_at 64 192 ws))
+    (pairs_length 32 (part_at 64 0 ws)) (pairs_length 32 (part_at 64 64 ws)) (pairs_length 32 (part_at 64 128 ws)) (pairs_length 32 (part_at 64 192 ws))

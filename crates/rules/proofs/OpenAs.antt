@@ -8,7 +8,7 @@ use lib.ListN.{length}
 use Rattle.model.specs.Lists.{Lists}
 use Rattle.model.specs.Requests.{Result}
 use Rattle.model.specs.Calls.{Call, Gives, answer, short_buffer}
-use Rattle.model.specs.Store.{load, record_of, words_of}
+use Rattle.model.specs.Store.{is_set, load, record_of, words_of}
 use Rattle.model.specs.declared.FrameAllocator.{FrameAllocator}
 use Rattle.model.proofs.Lasting.{answer_lawful}
 use Rattle.model.proofs.Lawful.{Lawful}
@@ -16,17 +16,17 @@ use Rattle.model.proofs.Whole.{early_words}
 use Rattle.rules.specs.Check as whole
 use Rattle.rules.proofs.Going.{ruled_stands, stored_stands, gives_does, ruled_tested}
 use Rattle.rules.proofs.Numbers.{checked_ruled}
-use Rattle.entries.specs.Part.{width}
-use Rattle.entries.specs.Whole.{lists_in, header_of, four, entries_of, Ruled, Does}
-use Rattle.entries.specs.declared.header.Header.{Header}
-use Rattle.entries.specs.declared.header.Answered.{Answered}
-use Rattle.entries.proofs.Again.{lists_again, ruled_again}
-use Rattle.packing.specs.Packed.{packed_lists, Unpackable, Apart, Closable, closed}
-use Rattle.packing.specs.Open.{lent, DoesOpen}
+use Rattle.lists.specs.Part.{width}
+use Rattle.lists.specs.Whole.{lists_in, header_of, four, entries_of, Ruled, Does}
+use Rattle.lists.specs.declared.header.Header.{Header}
+use Rattle.lists.specs.declared.header.HandedBack.{HandedBack}
+use Rattle.lists.proofs.Again.{lists_again, ruled_again}
+use Rattle.lists.specs.Packed.{packed_lists, Unpackable, Apart, Closable, closed}
+use Rattle.lists.specs.Open.{lent, DoesOpen}
 use Rattle.rules.specs.declared.Opened.{Opened}
-use Rattle.packing.proofs.Closing.{can_unpack, no_unpack}
+use Rattle.lists.proofs.Closing.{can_unpack, no_unpack}
 use Rattle.std.proofs.Math.Bool.{and-false}
-use Rattle.packing.proofs.Packed.{packed_length, unpackable, entries_packed, close_lists, sorted_words, header_lists, pack_lists, close_sorted}
+use Rattle.lists.proofs.Packed.{packed_length, unpackable, entries_packed, close_lists, sorted_words, header_lists, pack_lists, close_sorted}
 
 -- the lists stand open in a header, slots and words
 pub record OpenAs (l : Lists) (h : Header) (es ws : List ℕ) : Type 0 where
@@ -37,7 +37,7 @@ pub record OpenAs (l : Lists) (h : Header) (es ws : List ℕ) : Type 0 where
   pub enough : 4096 ≤ length ws
 
 -- a record that keeps the rules, taken apart
-pub apart_as : (a : FrameAllocator) (ws : List ℕ) {h : Header} {es : List ℕ} → Apart a h es → whole.Ruled a ws → OpenAs (load a ws) h es ws
+pub apart_as : (a : FrameAllocator) (ws : List ℕ) {h : Header} {es : List ℕ} → Apart a h es → whole.RuledRecord a ws → OpenAs (load a ws) h es ws
 unfolding load
 apart_as a ws p u =
     let s = ruled_stands a ws u in
@@ -84,7 +84,7 @@ module _ {l : Lists} {h : Header} {es ws : List ℕ} (o : OpenAs l h es ws) wher
   open_lists = (λ i. lists_in (o.header i) (lent_is i)) ∙ lists_again l o.lawful (lent l.sorted es ws)
 
   -- what it does, it does to the lists, and these stand open after it
-  module _ (f : Lists → Result) (keeps : Lawful (f l).lists) (form : (f l).lists.sorted ≡ l.sorted) {d : Answered} {es-after ws-after : List ℕ} (x : DoesOpen f h es ws d es-after ws-after) where
+  module _ (f : Lists → Result) (keeps : Lawful (f l).lists) (form : (f l).lists.sorted ≡ l.sorted) {d : HandedBack} {es-after ws-after : List ℕ} (x : DoesOpen f h es ws d es-after ws-after) where
     done : Does (f l) (lent l.sorted es ws) d (lent l.sorted es-after ws-after)
     done =
         subst (λ (b : Bool). Does (f l) (lent b es ws) d (lent b es-after ws-after)) form_is
@@ -118,13 +118,13 @@ module _ {l : Lists} {h : Header} {es ws : List ℕ} (o : OpenAs l h es ws) wher
         record { lawful = keeps; header = done.header; slots = open_slots; words = s.words; enough = s.enough }
 
   -- closed, they are the record that stores them
-  module _ (a : FrameAllocator) (vs : List ℕ) (u : whole.Ruled a vs) (same : a.sorted ≡ l.sorted) where
-    pub close_can : Closable (a.sorted && h.sorted) es
+  module _ (a : FrameAllocator) (vs : List ℕ) (u : whole.RuledRecord a vs) (same : is_set a.sorted ≡ l.sorted) where
+    pub close_can : Closable (is_set a.sorted && h.sorted) es
     close_can = go l.sorted refl
       where
-        go : (b : Bool) → l.sorted ≡ b → Closable (a.sorted && h.sorted) es
+        go : (b : Bool) → l.sorted ≡ b → Closable (is_set a.sorted && h.sorted) es
         go true e = no_unpack es (λ i. (same ∙ e) i && (form_is ∙ e) i)
-        go false e = can_unpack ((λ i. a.sorted && (form_is ∙ e) i) ∙ and-false a.sorted) (subst Unpackable (sym (o.slots e)) (unpackable l o.lawful e))
+        go false e = can_unpack ((λ i. is_set a.sorted && (form_is ∙ e) i) ∙ and-false (is_set a.sorted)) (subst Unpackable (sym (o.slots e)) (unpackable l o.lawful e))
 
     pub close_is : closed a h es ≡ record_of l
     close_is = go l.sorted refl
@@ -141,18 +141,18 @@ module _ (c : Call) (a : FrameAllocator) (ws : List ℕ) (long : short_buffer c 
   pub call_may : Ruled o.header (lent o.header.sorted es ws)
   call_may = open_ruled stands
 
-  module _ {d : Answered} {es-after ws-after : List ℕ} (x : DoesOpen (answer c) o.header es ws d es-after ws-after) where
+  module _ {d : HandedBack} {es-after ws-after : List ℕ} (x : DoesOpen (answer c) o.header es ws d es-after ws-after) where
     kept : Lawful (answer c (load a ws)).lists
     kept = answer_lawful c (load a ws) stands.lawful
 
     after : OpenAs (answer c (load a ws)).lists d.header es-after ws-after
     after = open_after stands (answer c) kept form x
 
-    same_record : a.sorted ≡ (answer c (load a ws)).lists.sorted
+    same_record : is_set a.sorted ≡ (answer c (load a ws)).lists.sorted
     unfolding load
     same_record = sym form
 
-    pub call_closes : Closable (a.sorted && d.header.sorted) es-after
+    pub call_closes : Closable (is_set a.sorted && d.header.sorted) es-after
     call_closes = close_can after a ws (checked_ruled a ws z) same_record
 
     pub call_gives : (b : FrameAllocator) → b ≡ closed a d.header es-after → Gives c a ws (whole.answered_with d.answer b) ws-after

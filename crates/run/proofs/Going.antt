@@ -4,16 +4,17 @@ use mathlib.Core.Path.{◌≡◌, refl, sym, ap, subst, ◌∙◌}
 use mathlib.Core.Bool.{◌&&◌}
 use mathlib.Core.List.{List, ◌++◌}
 use lib.ListN.{length, take, drop}
+use Rattle.model.specs.Store.{is_set}
 use Rattle.model.specs.Calls.{Gives}
 use Rattle.model.specs.declared.Called.{Called}
 use Rattle.model.specs.declared.FrameAllocator.{FrameAllocator}
 use Rattle.rules.specs.Check.{verdict, Verdict}
-use Rattle.entries.specs.Whole.{Ruled}
-use Rattle.entries.specs.declared.header.Header.{Header}
-use Rattle.entries.specs.declared.header.Answered.{Answered}
-use Rattle.packing.specs.Packed.{Apart, Closable}
+use Rattle.lists.specs.Whole.{Ruled}
+use Rattle.lists.specs.declared.header.Header.{Header}
+use Rattle.lists.specs.declared.header.HandedBack.{HandedBack}
+use Rattle.lists.specs.Packed.{Apart, Closable}
 use Rattle.rules.specs.Check.{Opens}
-use Rattle.packing.specs.Open.{lent}
+use Rattle.lists.specs.Open.{lent}
 use Rattle.rules.specs.declared.Opened.{Opened}
 use Rattle.run_calls.specs.declared.RunCall.{RunCall}
 use Rattle.run_calls.specs.declared.RunCall.TheVariants.{Change, Keep}
@@ -47,7 +48,7 @@ pub going_start : (areas calls : List ℕ) (a : FrameAllocator) (ws answers held
 going_start areas calls a ws answers held o p n = apart_goes (reached_start areas calls a ws answers held o.tested p.tested) p.apart n
 
 module _ {areas calls : List ℕ} {first : FrameAllocator} {ws₀ answers₀ held₀ : List ℕ} {test : Verdict} {made : ℕ} {a : FrameAllocator} {h : Header} {es ws answers held : List ℕ} (s : Going areas calls first ws₀ answers₀ held₀ test made a h es ws answers held) where
-  pub going_closes : test ≡ Ok tt → Closable (a.sorted && h.sorted) es
+  pub going_closes : test ≡ Ok tt → Closable (is_set a.sorted && h.sorted) es
   going_closes z = standing_closes (s.stands z)
 
   pub going_ruled : test ≡ Ok tt → Ruled h (lent h.sorted es ws)
@@ -58,7 +59,7 @@ module _ {areas calls : List ℕ} {first : FrameAllocator} {ws₀ answers₀ hel
 
   module _ (more : 3 * made + 3 ≤ length calls) (command : RunCall) (d : Option RunCall) (p : d ≡ decoded_at areas calls (3 * made)) (q : d ≡ Some command) (room : 5 * made + 5 ≤ length answers) where
     -- a call that keeps the form
-    pub going_kept : {c : OpenCall} → command ≡ Keep c → {x : Answered} {es-after ws-after held_after : List ℕ} → MadeOpen (open_call (length held) c) test h es ws held x es-after ws-after held_after →
+    pub going_kept : {c : OpenCall} → command ≡ Keep c → {x : HandedBack} {es-after ws-after held_after : List ℕ} → MadeOpen (open_call (length held) c) test h es ws held x es-after ws-after held_after →
         (answers-after : List ℕ) → answers-after ≡ take (5 * made) answers ++ answer_words x.answer ++ drop (5 * made + 5) answers →
         length ws-after ≡ length ws → length answers-after ≡ length answers → length held_after ≡ length held → length es-after ≡ 256 →
         Going areas calls first ws₀ answers₀ held₀ test (made + 1) a x.header es-after ws-after answers-after held_after

@@ -6,7 +6,7 @@ use mathlib.Core.List.{List, [], ◌∷◌}
 use lib.ListN.{length, take, drop, get_or}
 use lib.Seq.{take-nil}
 use Rattle.model.specs.Calls.{Call}
-use Rattle.areas.proofs.Read.{next_three, none_left}
+use Rattle.boot_areas.proofs.Read.{next_three, none_left}
 use Rattle.run_calls.specs.Commands.{decoded, call_in}
 use Rattle.run_calls.specs.declared.RunCall.{RunCall}
 use Rattle.std.specs.Prelude.{Option, Some, None}

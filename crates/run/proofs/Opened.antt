@@ -8,7 +8,7 @@ use lib.ListN.{length}
 use Rattle.model.specs.Lists.{Lists}
 use Rattle.model.specs.Queries.{HeldWritten, held_runs}
 use Rattle.model.specs.Calls.{Call, held_call, answer, short_buffer}
-use Rattle.model.specs.Store.{load, record_of}
+use Rattle.model.specs.Store.{is_set, load, record_of}
 use Rattle.model.specs.declared.FrameAllocator.{FrameAllocator}
 use Rattle.std.specs.Prelude.{Ok, Err}
 use Rattle.std.specs.Result.{is_ok}
@@ -21,11 +21,11 @@ use Rattle.rules.specs.Check.{verdict, Verdict}
 use Rattle.rules.proofs.Going.{ruled_stands, gives_does}
 use Rattle.rules.proofs.Held.{held_going}
 use Rattle.rules.proofs.Numbers.{passed_number, verdict_ruled}
-use Rattle.entries.specs.Whole.{lists_in, Ruled}
-use Rattle.entries.specs.declared.header.Header.{Header}
-use Rattle.entries.specs.declared.header.Answered.{Answered}
-use Rattle.packing.specs.Packed.{Apart, Closable, closed}
-use Rattle.packing.specs.Open.{lent, DoesOpen}
+use Rattle.lists.specs.Whole.{lists_in, Ruled}
+use Rattle.lists.specs.declared.header.Header.{Header}
+use Rattle.lists.specs.declared.header.HandedBack.{HandedBack}
+use Rattle.lists.specs.Packed.{Apart, Closable, closed}
+use Rattle.lists.specs.Open.{lent, DoesOpen}
 use Rattle.rules.proofs.OpenAs.{OpenAs, apart_as, open_ruled, open_lists, open_answers, open_words, open_after, close_can, close_is}
 use Rattle.run_calls.specs.declared.OpenCall.{OpenCall}
 use Rattle.run_calls.specs.Commands.{open_call}
@@ -38,8 +38,8 @@ pub record Standing (a : FrameAllocator) (h : Header) (es ws : List ℕ) : Type 
   pub lists : Lists
   pub opens : OpenAs lists h es ws
   pub before : List ℕ
-  pub ruled : whole.Ruled a before
-  pub form : a.sorted ≡ lists.sorted
+  pub ruled : whole.RuledRecord a before
+  pub form : is_set a.sorted ≡ lists.sorted
 
 pub passed_is : (t : Verdict) → t ≡ Ok tt → (a : FrameAllocator) (h : Header) (es : List ℕ) → record_now t a h es ≡ closed a h es
 unfolding record_now
@@ -56,7 +56,7 @@ passed (Ok u) e = refl
 passed (Err r) e = absurd (false≢true e)
 
 module _ {a : FrameAllocator} {h : Header} {es ws : List ℕ} (s : Standing a h es ws) where
-  pub standing_closes : Closable (a.sorted && h.sorted) es
+  pub standing_closes : Closable (is_set a.sorted && h.sorted) es
   standing_closes = close_can s.opens a s.before s.ruled s.form
 
   pub standing_record : closed a h es ≡ record_of s.lists
@@ -79,7 +79,7 @@ module _ (test : Verdict) (a : FrameAllocator) (ws : List ℕ) (e : test ≡ ver
       let u = verdict_ruled a ws (sym e ∙ z) in
       record { lists = load a ws; opens = apart_as a ws p u; before = ws; ruled = u; form = refl }
 
-  same_form_kept : a.sorted ≡ (load a ws).sorted
+  same_form_kept : is_set a.sorted ≡ (load a ws).sorted
   unfolding load
   same_form_kept = refl
 
@@ -101,7 +101,7 @@ module _ (c : OpenCall) (test : Verdict) (a : FrameAllocator) (h : Header) (es w
   abbrev it : Call
   it = open_call (length before) c
 
-  done_standing : (z : verdict_for it test ≡ Ok tt) {d : Answered} {es-after ws-after : List ℕ} → DoesOpen (answer it) h es ws d es-after ws-after → Standing a d.header es-after ws-after
+  done_standing : (z : verdict_for it test ≡ Ok tt) {d : HandedBack} {es-after ws-after : List ℕ} → DoesOpen (answer it) h es ws d es-after ws-after → Standing a d.header es-after ws-after
   done_standing z x =
       let s = stands (goes_on it test z) in
       let form = same_form it s.lists (open_keeps (length before) c) in
@@ -113,11 +113,11 @@ module _ (c : OpenCall) (test : Verdict) (a : FrameAllocator) (h : Header) (es w
         form = s.form ∙ sym form;
       }
 
-  pub made_standing : {d : Answered} {es-after ws-after after : List ℕ} → MadeOpen it test h es ws before d es-after ws-after after → test ≡ Ok tt → Standing a d.header es-after ws-after
-  made_standing (refused r q e) z = subst (λ (y : Header). Standing a y es ws) (sym (ap (λ (y : Answered). y.header) e)) (stands z)
+  pub made_standing : {d : HandedBack} {es-after ws-after after : List ℕ} → MadeOpen it test h es ws before d es-after ws-after after → test ≡ Ok tt → Standing a d.header es-after ws-after
+  made_standing (refused r q e) z = subst (λ (y : Header). Standing a y es ws) (sym (ap (λ (y : HandedBack). y.header) e)) (stands z)
   made_standing (done y x left) z = done_standing y x
 
-  done_made : (z : verdict_for it test ≡ Ok tt) {d : Answered} {es-after ws-after after : List ℕ} → DoesOpen (answer it) h es ws d es-after ws-after → LeftOpen it (lists_in h (lent h.sorted es ws)) d.answer.count before after
+  done_made : (z : verdict_for it test ≡ Ok tt) {d : HandedBack} {es-after ws-after after : List ℕ} → DoesOpen (answer it) h es ws d es-after ws-after → LeftOpen it (lists_in h (lent h.sorted es ws)) d.answer.count before after
       → Made it (closed a h es) ws before (record { answer = d.answer; allocator = closed a d.header es-after }) ws-after after
   done_made z {d} {es-after} {ws-after} {after} x left =
       let s = stands (goes_on it test z) in
@@ -128,7 +128,7 @@ module _ (c : OpenCall) (test : Verdict) (a : FrameAllocator) (h : Header) (es w
       let same = standing_loads s in
       record {
         gives = gives_does it (closed a h es) ws (goes_long it test z) y _ ws-after
-            (subst (λ (m : Lists). whole.Does (answer it m) ws (record { answer = d.answer; allocator = closed a d.header es-after }) ws-after) (sym same) (record {
+            (subst (λ (m : Lists). whole.DoesCall (answer it m) ws (record { answer = d.answer; allocator = closed a d.header es-after }) ws-after) (sym same) (record {
               answers = open_answers s.opens (answer it) keeps form x;
               records = close_is (open_after s.opens (answer it) keeps form x) a s.before s.ruled (s.form ∙ sym form);
               words = open_words s.opens (answer it) keeps form x;
@@ -141,7 +141,7 @@ module _ (c : OpenCall) (test : Verdict) (a : FrameAllocator) (h : Header) (es w
         };
       }
 
-  pub made_record : {d : Answered} {es-after ws-after after : List ℕ} → MadeOpen it test h es ws before d es-after ws-after after
+  pub made_record : {d : HandedBack} {es-after ws-after after : List ℕ} → MadeOpen it test h es ws before d es-after ws-after after
       → Made it (record_now test a h es) ws before (record { answer = d.answer; allocator = record_now test a d.header es-after }) ws-after after
   made_record {d} (refused r q e) =
       made_refused it (record_now test a h es) ws before test tested r q _

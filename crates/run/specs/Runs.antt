@@ -5,9 +5,9 @@ use Rattle.model.specs.Calls.{Call, Outcome, call, fresh_record}
 use Rattle.model.specs.History.{outcomes, record_after, words_after, is_general, Boots, Holds}
 use Rattle.model.specs.Words.{answer_words}
 use Rattle.model.specs.declared.FrameAllocator.{FrameAllocator}
-use Rattle.areas.specs.Areas.{triples}
-use Rattle.entries.specs.declared.header.Header.{Header}
-use Rattle.packing.specs.Packed.{closed}
+use Rattle.boot_areas.specs.Areas.{triples}
+use Rattle.lists.specs.declared.header.Header.{Header}
+use Rattle.lists.specs.Packed.{closed}
 use Rattle.rules.specs.Check.{Verdict}
 use Rattle.run_calls.specs.Commands.{decoded, call_in}
 use Rattle.run_calls.specs.Made.{Left}

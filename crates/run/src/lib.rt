@@ -3,11 +3,12 @@
 #![tactic(auto)]
 
 ghost use Rattle.std.specs.Prelude.{◌≡◌, Ok, ◌&&◌, ◌++◌, ◌+◌, ◌≤◌, length, take, drop};
-ghost use Rattle.packing.specs.Packed.{Closable};
-ghost use Rattle.run.specs.Runs.{record_now, Runs};
+ghost use Rattle.model.specs.Store.{is_set};
+ghost use Rattle.lists.specs.Packed.{Closable};
+ghost use Rattle.run.specs.Runs.{record_now, ran_with, Runs};
 ghost use Rattle.model.specs.Words.{answer_words};
 
-use model::{Answer, FrameAllocator};
+use model::{Answer, EARLY_WORDS, FrameAllocator};
 use rules::Opened;
 use run_calls::RunCall;
 
@@ -28,7 +29,7 @@ pub struct Ending {
     pub end: RunEnd,
 }
 
-// What a run hands back: how it ended, and the record after it.
+// What a run of a record by value hands back: how it ended, and the record after it.
 #[derive(Clone, Copy)]
 pub struct Ran {
     pub ending: Ending,
@@ -38,19 +39,18 @@ pub struct Ran {
 // Each call gets record and workspace as the call before left them. Its answer goes to the next five words of the buffer. The record is
 // opened once; a boot or a sort, which may change the form, closes it and opens it again. Six parameters: each buffer of a run is lent by C.
 pub fn run(
-    a: FrameAllocator,
+    a: &mut FrameAllocator,
     words: &mut [u64],
     calls: &[u64],
     areas: &[u64],
     answers: &mut [u64],
     held: &mut [u64],
-) -> Ran
-    ensures { Runs areas.now calls.now a words.old answers.old held.old result words.new answers.new held.new }
+) -> Ending
+    ensures { Runs areas.now calls.now a.old words.old answers.old held.old (ran_with result a.new) words.new answers.new held.new }
 {
-    let mut slots = [0u64; 256];
-    let mut opened = rules::open(&a, words, &mut slots);
-    // The record as it was opened last: its lengths and its slots may be old ones.
-    let mut allocator = a;
+    // While calls are made here, the lengths and the slots of the record itself may be old ones.
+    let mut slots = [0u64; EARLY_WORDS];
+    let mut opened = rules::open(a, words, &mut slots);
     let mut ending = Ending {
         made: calls.len() / 3,
         end: RunEnd::Done,
@@ -76,25 +76,24 @@ pub fn run(
                 opened.header = done.header;
             }
             RunCall::Change(call) => {
-                close_tested(opened, &mut allocator, &slots);
-                let called = run_calls::change_form(allocator, words, opened.tested, call, areas);
-                put_answer(answers, at, called.answer);
-                allocator = called.allocator;
-                opened.header = packing::take_apart(&allocator, &mut slots);
+                close_tested(opened, a, &slots);
+                let answer = run_calls::change_form(a, words, opened.tested, call, areas);
+                put_answer(answers, at, answer);
+                opened.header = lists::take_apart(a, &mut slots);
             }
         }
     }
-    close_tested(opened, &mut allocator, &slots);
-    Ran { ending, allocator }
+    close_tested(opened, a, &slots);
+    ending
 }
 
 // The record as the calls left it; one that the test refuses stays as it was.
 fn close_tested(opened: Opened, a: &mut FrameAllocator, slots: &[u64])
-    requires { opened.tested ≡ Ok tt → Closable (a.old.sorted && opened.header.sorted) slots.now }
+    requires { opened.tested ≡ Ok tt → Closable (is_set a.old.sorted && opened.header.sorted) slots.now }
     ensures { a.new ≡ record_now opened.tested a.old opened.header slots.now }
 {
     if opened.tested.is_ok() {
-        packing::close(a, opened.header, slots);
+        lists::close(a, opened.header, slots);
     }
 }
 

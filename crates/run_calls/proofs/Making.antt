@@ -26,16 +26,16 @@ use Rattle.model.proofs.Each.{changes_form}
 use Rattle.rules.specs.Check.{verdict, Verdict, refused_with}
 use Rattle.rules.proofs.Numbers.{short_call, gives_refused}
 use Rattle.rules.proofs.Refusals.{numbered, answers_number}
-use Rattle.areas.specs.Boots.{boot_call_of}
-use Rattle.areas.specs.declared.AreaUnit.{AreaUnit}
-use Rattle.areas.specs.declared.AreaUnit.TheVariants as unit
+use Rattle.boot_areas.specs.Boots.{boot_call_of}
+use Rattle.boot_areas.specs.declared.AreaUnit.{AreaUnit}
+use Rattle.boot_areas.specs.declared.AreaUnit.TheVariants as unit
 use Rattle.query_core.specs.Listed as query
-use Rattle.entries.specs.Whole.{lists_in, Ruled}
-use Rattle.entries.specs.Whole as whole
-use Rattle.entries.specs.declared.header.Header.{Header}
-use Rattle.entries.specs.declared.header.Answered.{Answered}
-use Rattle.entries.proofs.Whole.{header_kept, words_kept}
-use Rattle.packing.specs.Open.{lent, DoesOpen}
+use Rattle.lists.specs.Whole.{lists_in, Ruled}
+use Rattle.lists.specs.Whole as whole
+use Rattle.lists.specs.declared.header.Header.{Header}
+use Rattle.lists.specs.declared.header.HandedBack.{HandedBack}
+use Rattle.lists.proofs.Whole.{header_kept, words_kept}
+use Rattle.lists.specs.Open.{lent, DoesOpen}
 use Rattle.requests.specs.Asked as asked
 use Rattle.requests.specs.declared.Request.{Request}
 use Rattle.requests.specs.declared.Request.TheVariants.{Frames, Bytes, FramesAt, BytesAt, GeneralFramesAt}
@@ -43,14 +43,14 @@ use Rattle.run_calls.specs.declared.FormCall.{FormCall}
 use Rattle.run_calls.specs.declared.FormCall.TheVariants.{Boot, Sort}
 use Rattle.run_calls.specs.declared.OpenCall.{OpenCall}
 use Rattle.run_calls.specs.declared.OpenCall.TheVariants.{Allocate, Return, KindOf, FreeTotal, HeldList}
-use Rattle.run_calls.specs.Commands.{are_listed, Listed, areas_at, form_call, open_call}
+use Rattle.run_calls.specs.Commands.{are_listed, AreasListed, areas_at, form_call, open_call}
 use Rattle.run_calls.specs.Made.{verdict_for, Made, LeftOpen, MadeOpen, done}
 
 -- ---- a boot's areas: the part of the list from one word to another
 
-pub boot_in_list : (n first count : ℕ) (u : AreaUnit) (c : FormCall) → c ≡ Boot u first count → Listed n c → are_listed n first count ≡ true
-unfolding Listed
-boot_in_list n first count u c e h = subst (λ (x : FormCall). Listed n x) e h
+pub boot_in_list : (n first count : ℕ) (u : AreaUnit) (c : FormCall) → c ≡ Boot u first count → AreasListed n c → are_listed n first count ≡ true
+unfolding AreasListed
+boot_in_list n first count u c e h = subst (λ (x : FormCall). AreasListed n x) e h
 
 module _ (n first count : ℕ) (e : are_listed n first count ≡ true) where
   pub areas_end : 3 * first + 3 * count ≤ n
@@ -148,7 +148,7 @@ module _ (c : Call) (a : FrameAllocator) (ws before : List ℕ) where
 
 -- ---- a call on an allocator that stands open
 
-pub made_as : {tested : Verdict} {h : Header} {es ws before : List ℕ} {d : Answered} {es-after ws-after after : List ℕ} (n : ℕ) {c known : OpenCall} → c ≡ known →
+pub made_as : {tested : Verdict} {h : Header} {es ws before : List ℕ} {d : HandedBack} {es-after ws-after after : List ℕ} (n : ℕ) {c known : OpenCall} → c ≡ known →
     MadeOpen (open_call n known) tested h es ws before d es-after ws-after after → MadeOpen (open_call n c) tested h es ws before d es-after ws-after after
 made_as {tested} {h} {es} {ws} {before} {d} {es-after} {ws-after} {after} n e m = subst (λ (x : OpenCall). MadeOpen (open_call n x) tested h es ws before d es-after ws-after after) (sym e) m
 
@@ -178,11 +178,11 @@ unfolding answer held_runs counted
 held_keeps n l = refl
 
 pub asks_open : (c : Call) (h : Header) (es ws : List ℕ) → Ruled h (lent h.sorted es ws) → (answer c (lists_in h (lent h.sorted es ws))).lists ≡ lists_in h (lent h.sorted es ws)
-    → {x : Answer} → x ≡ (answer c (lists_in h (lent h.sorted es ws))).answer → {d : Answered} → d ≡ whole.answered_with x h → DoesOpen (answer c) h es ws d es ws
+    → {x : Answer} → x ≡ (answer c (lists_in h (lent h.sorted es ws))).answer → {d : HandedBack} → d ≡ whole.handed_with x h → DoesOpen (answer c) h es ws d es ws
 asks_open c h es ws u same {x} e {d} p = record {
   does = record {
-    answers = ap (λ (y : Answered). y.answer) p ∙ e;
-    header = ap (λ (y : Answered). y.header) p ∙ header_kept h _ u ∙ ap whole.header_of (sym same);
+    answers = ap (λ (y : HandedBack). y.answer) p ∙ e;
+    header = ap (λ (y : HandedBack). y.header) p ∙ header_kept h _ u ∙ ap whole.header_of (sym same);
     words = words_kept h _ u ∙ ap (λ (l : Lists). whole.entries_of l (lent h.sorted es ws)) (sym same);
   };
   kept = refl;
@@ -232,7 +232,7 @@ module _ (c : OpenCall) (tested : Verdict) (before : List ℕ) {v : Verdict} (is
   unfolding open_call
   goes_long_held e = long_held (length before) (goes_long (held_call (length before)) tested (known_verdict e))
 
-  module _ {h : Header} {es ws : List ℕ} {d : Answered} where
+  module _ {h : Header} {es ws : List ℕ} {d : HandedBack} where
     pub request_made : {r : Request} {es-after ws-after : List ℕ} → c ≡ Allocate r → DoesOpen (answer (asked.call_of r)) h es ws d es-after ws-after → MadeOpen (open_call (length before) c) tested h es ws before d es-after ws-after before
     unfolding open_call
     request_made {r} e x = made_as (length before) e (done (known_verdict e) x (kept_open _ _ _ before (request_other r (length before))))
@@ -241,7 +241,7 @@ module _ (c : OpenCall) (tested : Verdict) (before : List ℕ) {v : Verdict} (is
     unfolding open_call
     return_made e x = made_as (length before) e (done (known_verdict e) x (kept_open _ _ _ before (λ q. let w : ◌≡◌ {A = ℕ} 0 1 = cc in omega arith)))
 
-    module _ (keeps : tested ≡ Ok tt → Ruled h (lent h.sorted es ws)) {x : Answer} (p : d ≡ whole.answered_with x h) where
+    module _ (keeps : tested ≡ Ok tt → Ruled h (lent h.sorted es ws)) {x : Answer} (p : d ≡ whole.handed_with x h) where
       pub kind_made : {r : FrameRange} → c ≡ KindOf r → x ≡ (kind_of r (lists_in h (lent h.sorted es ws))).answer → MadeOpen (open_call (length before) c) tested h es ws before d es ws before
       unfolding open_call answer
       kind_made {r} e k = made_as (length before) e (done (known_verdict e) (asks_open (kind_call r) h es ws (goes_ruled es ws keeps) (kind_keeps r _) k p) (kept_open _ _ _ before (λ q. let w : ◌≡◌ {A = ℕ} 0 1 = cc in omega arith)))
@@ -254,6 +254,6 @@ module _ (c : OpenCall) (tested : Verdict) (before : List ℕ) {v : Verdict} (is
       unfolding open_call answer
       held_made {after} e t =
           made_as (length before) e (done (known_verdict e) (asks_open (held_call (length before)) h es ws (goes_ruled es ws keeps) (held_keeps (length before) _) t.answers p) (record {
-            listed = λ q. subst (λ (m : ℕ). HeldWritten (lists_in h (lent h.sorted es ws)) m before after) (sym (ap (λ (y : Answered). y.answer.count) p)) t.written;
+            listed = λ q. subst (λ (m : ℕ). HeldWritten (lists_in h (lent h.sorted es ws)) m before after) (sym (ap (λ (y : HandedBack). y.answer.count) p)) t.written;
             kept = λ q. absurd (q refl);
           }))

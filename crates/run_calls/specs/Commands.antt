@@ -4,10 +4,10 @@ use Rattle.std.specs.Prelude.{if◌then◌else◌}
 use Rattle.memory_structs.specs.Range.{range}
 use Rattle.model.specs.Calls.{Call, sort_call, return_call, kind_call, total_call, held_call}
 use Rattle.model.specs.Words.{kind_of_word}
-use Rattle.areas.specs.declared.AreaUnit.{AreaUnit}
-use Rattle.areas.specs.Boots.{boot_call_of}
+use Rattle.boot_areas.specs.declared.AreaUnit.{AreaUnit}
+use Rattle.boot_areas.specs.Boots.{boot_call_of}
 use Rattle.requests.specs.Asked as asked
-use Rattle.areas.specs.declared.AreaUnit.TheVariants as unit
+use Rattle.boot_areas.specs.declared.AreaUnit.TheVariants as unit
 use Rattle.requests.specs.declared.Request.TheVariants.{Frames, Bytes, FramesAt, BytesAt, GeneralFramesAt}
 use Rattle.run_calls.specs.declared.RunCall.{RunCall}
 use Rattle.run_calls.specs.declared.RunCall.TheVariants.{Change, Keep}
@@ -60,10 +60,10 @@ call_in areas buffer (Change c) = form_call areas c
 call_in areas buffer (Keep c) = open_call buffer c
 
 -- a boot's areas are all in the list of n words; no other call has any
-unfoldable pub Listed : ℕ → FormCall → Type 0
-Listed n (Boot u first count) = are_listed n first count ≡ true
-Listed n Sort = Unit {0}
+unfoldable pub AreasListed : ℕ → FormCall → Type 0
+AreasListed n (Boot u first count) = are_listed n first count ≡ true
+AreasListed n Sort = Unit {0}
 
 unfoldable pub InList : ℕ → RunCall → Type 0
-InList n (Change c) = Listed n c
+InList n (Change c) = AreasListed n c
 InList n (Keep c) = Unit {0}

@@ -9,10 +9,10 @@ use Rattle.model.specs.declared.refusals.Refusal.{Refusal}
 use Rattle.model.specs.declared.refusals.Refusal.TheVariants.{TooFewWords}
 use Rattle.model.specs.Refusals.{refused_answer}
 use Rattle.model.specs.Queries.{HeldWritten}
-use Rattle.entries.specs.Whole.{lists_in, answered_with}
-use Rattle.entries.specs.declared.header.Header.{Header}
-use Rattle.entries.specs.declared.header.Answered.{Answered}
-use Rattle.packing.specs.Open.{lent, DoesOpen}
+use Rattle.lists.specs.Whole.{lists_in, handed_with}
+use Rattle.lists.specs.declared.header.Header.{Header}
+use Rattle.lists.specs.declared.header.HandedBack.{HandedBack}
+use Rattle.lists.specs.Open.{lent, DoesOpen}
 use Rattle.rules.specs.Check.{Verdict}
 
 -- "Order: 3, 11": a short buffer before the verdict of the test
@@ -34,7 +34,7 @@ pub record LeftOpen (c : Call) (l : Lists) (count : ℕ) (before after : List �
   pub kept : (c ≡ held_call (length before) → ⊥) → after ≡ before
 
 -- a call on an allocator that stands open, by the verdict of the test: refused, with nothing changed, or done
-pub data MadeOpen (c : Call) (tested : Verdict) (h : Header) (slots ws before : List ℕ) (d : Answered) : List ℕ → List ℕ → List ℕ → Type 0 where
-  refused : (r : Refusal) → verdict_for c tested ≡ Err r → d ≡ answered_with (refused_answer r) h → MadeOpen c tested h slots ws before d slots ws before
+pub data MadeOpen (c : Call) (tested : Verdict) (h : Header) (slots ws before : List ℕ) (d : HandedBack) : List ℕ → List ℕ → List ℕ → Type 0 where
+  refused : (r : Refusal) → verdict_for c tested ≡ Err r → d ≡ handed_with (refused_answer r) h → MadeOpen c tested h slots ws before d slots ws before
   done : {slots_after ws-after after : List ℕ} → verdict_for c tested ≡ Ok tt → DoesOpen (answer c) h slots ws d slots_after ws-after →
       LeftOpen c (lists_in h (lent h.sorted slots ws)) d.answer.count before after → MadeOpen c tested h slots ws before d slots_after ws-after after

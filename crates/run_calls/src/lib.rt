@@ -3,18 +3,18 @@
 
 ghost use Rattle.std.specs.Prelude.{◌≡◌, length, Ok};
 ghost use Rattle.model.specs.Calls.{Gives};
-ghost use Rattle.rules.specs.Check.{verdict, Ruled};
-ghost use Rattle.entries.specs.Whole as whole;
-ghost use Rattle.packing.specs.Open.{lent};
+ghost use Rattle.rules.specs.Check.{verdict, answered_with, RuledRecord};
+ghost use Rattle.lists.specs.Whole as whole;
+ghost use Rattle.lists.specs.Open.{lent};
 ghost use Rattle.run_calls.specs.Commands as spec;
-ghost use Rattle.run_calls.specs.Commands.{Listed, form_call, open_call};
+ghost use Rattle.run_calls.specs.Commands.{AreasListed, form_call, open_call};
 ghost use Rattle.run_calls.specs.Made.{verdict_for, MadeOpen};
 
-use areas::AreaUnit;
+use boot_areas::AreaUnit;
 use calls::Operation;
-use entries::{Answered, Header};
+use lists::{HandedBack, Header};
 use memory_structs::FrameRange;
-use model::{Answer, Called, FrameAllocator, Kind, Refusal};
+use model::{Answer, FrameAllocator, HELD_WORDS, Kind, Refusal};
 use requests::Request;
 use rules::Opened;
 
@@ -105,15 +105,15 @@ fn are_listed(areas_len: usize, first: u64, count: u64) -> bool
 
 // Makes a call that may change the form, on the record, which was tested before: its verdict lasts (`verdict_lasts`, rules/proofs/Lasting).
 pub fn change_form(
-    a: FrameAllocator,
+    a: &mut FrameAllocator,
     words: &mut [u64],
     tested: Result<(), Refusal>,
     call: FormCall,
     areas: &[u64],
-) -> Called
-    requires tested_value { tested ≡ verdict a words.old }
-    requires listed { Listed (length areas.now) call }
-    ensures { Gives (form_call areas.now call) a words.old result words.new }
+) -> Answer
+    requires tested_value { tested ≡ verdict a.old words.old }
+    requires listed { AreasListed (length areas.now) call }
+    ensures { Gives (form_call areas.now call) a.old words.old (answered_with result a.new) words.new }
 {
     match call {
         FormCall::Boot { unit, first, count } => {
@@ -134,7 +134,7 @@ pub fn make_open(
     words: &mut [u64],
     call: OpenCall,
     held: &mut [u64],
-) -> Answered
+) -> HandedBack
     requires { opened.tested ≡ Ok tt → whole.Ruled opened.header (lent opened.header.sorted slots.old words.old) }
     ensures { MadeOpen (open_call (length held.old) call) opened.tested opened.header slots.old words.old held.old result slots.new words.new held.new }
 {
@@ -148,15 +148,15 @@ pub fn make_open(
         }
         OpenCall::Return(range) => calls::operate(h, slots, words, Operation::Return(range)),
         OpenCall::KindOf(range) => {
-            let lists = packing::lists_of(h, slots, words);
+            let lists = lists::lists_of(h, slots, words);
             answered(h, query_core::kind(lists, range))
         }
         OpenCall::FreeTotal(kind) => {
-            let lists = packing::lists_of(h, slots, words);
+            let lists = lists::lists_of(h, slots, words);
             answered(h, query_core::free_total(lists, kind))
         }
         OpenCall::HeldList => {
-            let lists = packing::lists_of(h, slots, words);
+            let lists = lists::lists_of(h, slots, words);
             answered(h, query_core::held_list(lists, held))
         }
     }
@@ -168,14 +168,14 @@ fn check_call(call: OpenCall, tested: Result<(), Refusal>, buffer_len: usize) ->
     ensures { result ≡ verdict_for (open_call buffer_len call) tested }
 {
     match call {
-        OpenCall::HeldList if buffer_len < 2048 => Err(Refusal::TooFewWords),
+        OpenCall::HeldList if buffer_len < HELD_WORDS => Err(Refusal::TooFewWords),
         _ => tested,
     }
 }
 
 // A question leaves the header as it was.
-fn answered(h: Header, answer: Answer) -> Answered
-    ensures { result ≡ whole.answered_with answer h }
+fn answered(h: Header, answer: Answer) -> HandedBack
+    ensures { result ≡ whole.handed_with answer h }
 {
-    Answered { answer, header: h }
+    HandedBack { answer, header: h }
 }

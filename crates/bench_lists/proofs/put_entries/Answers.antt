@@ -8,7 +8,7 @@ use Rattle.memory_structs.specs.Range.{is_empty}
 use Rattle.memory_structs.specs.declared.range.FrameRange.{FrameRange}
 use Rattle.model.specs.Lists.{Slot, entries}
 use Rattle.model.proofs.Ruled.{tidy_is}
-use Rattle.entries.specs.Listed.{list_slots}
+use Rattle.lists.specs.Listed.{list_slots}
 use Rattle.bench_lists.proofs.Going.{Going, going_starts, going_on, going_past, going_ends, moved, past, here, slots_few}
 use Rattle.bench_lists.proofs.put_entries.Goals as goal
 use Rattle.bench_lists.proofs.put_entries.Goals.{then-not-is_empty, else-not-is_empty}

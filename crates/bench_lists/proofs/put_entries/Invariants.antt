@@ -1,7 +1,7 @@
 -- `put_entries`: at each turn the entries from the slot i on are left.
 use lib.ListN.{drop}
 use Rattle.model.specs.Lists.{entries}
-use Rattle.entries.specs.Listed.{list_slots}
+use Rattle.lists.specs.Listed.{list_slots}
 use Rattle.bench_lists.proofs.Going.{Going}
 use Rattle.bench_lists.proofs.put_entries.Given as goal
 

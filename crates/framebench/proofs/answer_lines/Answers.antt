@@ -5,7 +5,7 @@ use Rattle.std.proofs.lemmas.Fn.{always_returns_same}
 use Rattle.std.proofs.lemmas.List.{nil_from_length}
 use Rattle.std.proofs.lemmas.Slice.Eq.{strip_suffix_is}
 use Rattle.bench_lines.specs.Commands.{command_of}
-use Rattle.bench_lines.specs.Lines.{lines_from, held}
+use Rattle.bench_lines.specs.Lines.{lines_from, held_line}
 use Rattle.bench_lines.proofs.Held.{held_on, held_decides}
 use Rattle.bench_answers.specs.Answered.{state_after}
 use Rattle.framebench.proofs.Going.{part_ended, part_open, state_on, state_stays, held_few, held_first, held_none, held_more}
@@ -33,7 +33,7 @@ loop-part-preserved-in-Some-strip_suffix c =
     let at = (cut.1.2 (λ b. b == 10) (always_returns_same _ (λ x r. r ≡ (x.0.now == 10)) _ (λ x r q k. (search (rules, tests), refl)))).1 in
     let is : c.in-Some.part.now ≡ line ++ (10 ∷ []) = strip_suffix_is Decides-eqb c.in-Some.part.now (10 ∷ []) (Some c.in-Some-strip_suffix.line) c.in-Some-strip_suffix.ensures.cases in
     let u = part_ended _ c.in-Some.part.now left cut.1.0 cut.0 cut.1.1 at line is in
-    let whole = c.hold.ensures ∙ ap (λ (t : List ℕ). held (t ++ line)) v.answers.rest ∙ held_on _ line in
+    let whole = c.hold.ensures ∙ ap (λ (t : List ℕ). held_line (t ++ line)) v.answers.rest ∙ held_on _ line in
     record {
       ready = record { ready = a.replies.ready; held_in = omega (arith, ap length a.none_held) };
       so_far = v.so_far ++ (line ++ (10 ∷ []));
@@ -52,7 +52,7 @@ loop-part-preserved c =
     let left = c.next.new.self.rest.now in
     let at = (cut.1.2 (λ b. b == 10) (always_returns_same _ (λ x r. r ≡ (x.0.now == 10)) _ (λ x r q k. (search (rules, tests), refl)))).1 in
     let u = part_open _ part left cut.1.0 cut.0 cut.1.1 at (strip_suffix_is Decides-eqb part (10 ∷ []) None c.in_default.ensures.cases) in
-    let whole = c.hold-in_default.ensures ∙ ap (λ (t : List ℕ). held (t ++ part)) v.answers.rest ∙ held_on _ part in
+    let whole = c.hold-in_default.ensures ∙ ap (λ (t : List ℕ). held_line (t ++ part)) v.answers.rest ∙ held_on _ part in
     record {
       ready = record { ready = v.ready.ready; held_in = held_few _ c.hold-in_default.ensures };
       so_far = v.so_far ++ part;

@@ -4,7 +4,7 @@ use Rattle.queries.proofs.Asked.{held_refused, held_read}
 use Rattle.queries.proofs.held_list.Goals as goal
 
 pub returns-in-Ok : goal.returns-in-Ok
-returns-in-Ok c = held_read _ _ _ (omega (arith, c.if-buffer-lt2048.false)) _ c.in-Ok.ensures.ok c.held_list.ensures
+returns-in-Ok c = held_read _ _ _ (omega (arith, c.if-buffer-lt-HELD_WORDS.false)) _ c.in-Ok.ensures.ok c.held_list.ensures
 
 pub returns-in-Err : goal.returns-in-Err
-returns-in-Err c = held_refused _ _ _ (omega (arith, c.if-buffer-lt2048.false)) _ c.in-Err.ensures.err c.from-in-Err.ensures
+returns-in-Err c = held_refused _ _ _ (omega (arith, c.if-buffer-lt-HELD_WORDS.false)) _ c.in-Err.ensures.err c.from-in-Err.ensures

@@ -5,8 +5,8 @@ use mathlib.Core.List.{List}
 use Prim.Native.Nat.{◌≤◌}
 use Rattle.model.specs.Lists.{Slot, bound}
 use Rattle.model.specs.Rules.{tidy}
-use Rattle.entries.specs.Part.{part_slots}
-use Rattle.entries.proofs.Forms.{as_table, as_pairs, at_sorted, at_early, sorted_after, early_after}
+use Rattle.lists.specs.Part.{part_slots}
+use Rattle.lists.proofs.Forms.{as_table, as_pairs, at_sorted, at_early, sorted_after, early_after}
 use Rattle.memory_structs.specs.declared.range.FrameRange.{FrameRange}
 use Rattle.request_search.specs.declared.Chosen.{Chosen}
 use Rattle.request_grants.specs.Grants.{Chooses, grant_of, entries_left}

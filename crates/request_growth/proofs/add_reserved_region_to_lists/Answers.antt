@@ -4,9 +4,9 @@ use mathlib.Core.Path.{◌∙◌}
 use Prim.Native.Nat.{◌<◌}
 use lib.ListN.{length}
 use Rattle.model.specs.Lists.{entries, bound, insert}
-use Rattle.entries.specs.declared.header.WhichList.TheVariants.{ReservedRegions}
-use Rattle.entries.specs.Whole.{slots_at}
-use Rattle.entries.proofs.Whole.{lent_fits, lent_as, lent_tidy}
+use Rattle.lists.specs.declared.header.WhichList.TheVariants.{ReservedRegions}
+use Rattle.lists.specs.Whole.{slots_at}
+use Rattle.lists.proofs.Whole.{lent_fits, lent_as, lent_tidy}
 use Rattle.request_growth.proofs.Growing.{tidy_slotted, lent_changed}
 use Rattle.request_growth.proofs.add_reserved_region_to_lists.Goals as goal
 

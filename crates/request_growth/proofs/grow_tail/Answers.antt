@@ -9,7 +9,7 @@ use Rattle.model.specs.Lists.{Slot, entries, range_at}
 use Rattle.request_search.specs.Searches.{one_chunk}
 use Rattle.std.specs.Prelude.{Err}
 use Rattle.memory_structs.specs.Range.{range}
-use Rattle.entries.specs.Whole.{lists_in, slots_at}
+use Rattle.lists.specs.Whole.{lists_in, slots_at}
 use Rattle.request_growth.proofs.Tail.{LastChunk}
 use Rattle.request_growth.proofs.Growing.{Open, open_growth, growth_refused}
 use Rattle.request_growth.proofs.Cut.{tail_filled, some_chunk, has_last, last_is, cut_chooses, cut_fits, cut_ruled, cut_room, tail_done}

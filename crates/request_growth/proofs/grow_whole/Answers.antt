@@ -2,7 +2,7 @@
 use Rattle.std.proofs.Common.{rules}
 use mathlib.Core.Path.{◌≡◌, sym, ◌∙◌}
 use Rattle.std.specs.Prelude.{Err}
-use Rattle.entries.specs.Whole.{lists_in}
+use Rattle.lists.specs.Whole.{lists_in}
 use Rattle.request_taking.proofs.Taken.{does_grant}
 use Rattle.request_growth.proofs.Growing.{Open, open_growth, growth_refused, room_regions_holds, whole_growth, tidy_chunks}
 use Rattle.request_growth.proofs.grow_whole.Goals as goal

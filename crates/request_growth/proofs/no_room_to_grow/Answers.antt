@@ -4,10 +4,10 @@ use mathlib.Core.Path.{ap, ◌∙◌}
 use mathlib.Core.List.{List}
 use lib.Dec.{leb}
 use lib.ListN.{length}
-use Rattle.entries.specs.Listed.{lists_of}
-use Rattle.entries.specs.Whole.{lists_in, slots_at}
+use Rattle.lists.specs.Listed.{lists_of}
+use Rattle.lists.specs.Whole.{lists_in, slots_at}
 use Rattle.model.specs.Lists.{Slot, entries, bound}
-use Rattle.entries.specs.declared.Part.{Part}
+use Rattle.lists.specs.declared.Part.{Part}
 use Rattle.request_growth.proofs.Growing.{room_early}
 use Rattle.request_growth.proofs.no_room_to_grow.Goals as goal
 

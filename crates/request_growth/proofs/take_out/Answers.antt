@@ -3,8 +3,8 @@ use native.Mathlib.Omega.{arith}
 use mathlib.Core.Path.{◌∙◌}
 use Prim.Native.Nat.{◌≤◌}
 use Rattle.model.specs.Lists.{bound}
-use Rattle.entries.specs.declared.header.WhichList.TheVariants.{ReservedFree}
-use Rattle.entries.proofs.Whole.{lent_fits, lent_as, lent_tidy}
+use Rattle.lists.specs.declared.header.WhichList.TheVariants.{ReservedFree}
+use Rattle.lists.proofs.Whole.{lent_fits, lent_as, lent_tidy}
 use Rattle.request_grants.specs.Grants.{Chooses, grant_of, entries_left}
 use Rattle.request_growth.proofs.Growing.{lent_changed}
 use Rattle.request_growth.proofs.take_out.Goals as goal

@@ -6,7 +6,7 @@ use Rattle.memory_structs.specs.declared.range.FrameRange.{FrameRange}
 use Rattle.std.specs.Prelude.{Some, Ok}
 use Rattle.model.specs.Lists.{first_where}
 use Rattle.model.specs.Requests.{find, chunks}
-use Rattle.entries.specs.Listed.{list_slots}
+use Rattle.lists.specs.Listed.{list_slots}
 use Rattle.request_search.specs.declared.Chosen.{Chosen}
 use Rattle.request_search.specs.Searches.{answer_of}
 use Rattle.request_search.proofs.Early.{first_bound, slot_holds, none_holds}

@@ -11,12 +11,12 @@ use Rattle.tables.proofs.Touching.{tidy_rising}
 use Rattle.return_joining.proofs.Rejoined.{table_full, table_room, table_goes}
 use Rattle.return_joining.proofs.add_pair.Goals as goal
 
-pub returns-then-len-ge512 : goal.returns-then-len-ge512
-returns-then-len-ge512 c = let a = c.args in (table_full a.range a.len a.t.now c.requires.t_value_2 c.if-len-ge512.true, refl)
+pub returns-then-len-ge-ENTRIES : goal.returns-then-len-ge-ENTRIES
+returns-then-len-ge-ENTRIES c = let a = c.args in (table_full a.range a.len a.t.now c.requires.t_value_2 c.if-len-ge-ENTRIES.true, refl)
 
 pub insert-requires : goal.insert-requires
 insert-requires c =
-    let fits : c.args.len < 512 = omega (arith, c.if-len-ge512.false) in record {
+    let fits : c.args.len < 512 = omega (arith, c.if-len-ge-ENTRIES.false) in record {
       len_in_bounds = omega (arith, c.requires.table.size, fits);
       t_value = tidy_rising _ c.requires.t_value;
     }
@@ -24,7 +24,7 @@ insert-requires c =
 pub returns : goal.returns
 unfolding insert
 returns c =
-    let fits : c.args.len < 512 = omega (arith, c.if-len-ge512.false) in
+    let fits : c.args.len < 512 = omega (arith, c.if-len-ge-ENTRIES.false) in
     let a = c.args in
     let r = a.range in
     table_goes r a.len a.t.now c.requires.table (table_room r a.len a.t.now c.requires.t_value_2 fits) _ c.requires.t_value_2 (a.len + 1) _

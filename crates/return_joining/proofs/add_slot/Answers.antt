@@ -1,14 +1,13 @@
 -- `add_slot`: a slot for it, or none.
-use native.Mathlib.Omega.{arith}
-use mathlib.Core.Path.{ap}
-use mathlib.Core.List.{List}
-use lib.ListN.{length}
-use Rattle.model.specs.Lists.{Slot, entries}
+use mathlib.Core.Path.{sym, ◌∙◌}
+use borrow.Author.Tests.{ltb-true, ltb-false}
 use Rattle.return_joining.proofs.Rejoined.{slots_full, slot_added}
 use Rattle.return_joining.proofs.add_slot.Goals as goal
 
-pub returns-then-count-ge32 : goal.returns-then-count-ge32
-returns-then-count-ge32 c = slots_full c.args.range c.args.t.now (omega (arith, c.if-count-ge32.true, c.count.ensures, ap (λ (s : List Slot). length (entries s)) c.new.ensures))
+pub returns-then-not-insert : goal.returns-then-not-insert
+returns-then-not-insert c =
+    let full = c.if-not-insert.true in
+    slots_full c.args.range c.args.t.now (ltb-false _ _ (sym c.insert.ensures.place ∙ full)) (c.insert.ensures.full full)
 
 pub returns : goal.returns
-returns c = slot_added c.args.range c.args.t.now (omega (arith, c.if-count-ge32.false, c.count.ensures, ap (λ (s : List Slot). length (entries s)) c.new.ensures)) c.insert.ensures
+returns c = slot_added c.args.range c.args.t.now (ltb-true _ _ (sym c.insert.ensures.place ∙ c.if-not-insert.false)) c.insert.ensures.slots

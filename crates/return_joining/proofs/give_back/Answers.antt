@@ -1,7 +1,7 @@
 -- `give_back`: by the form.
 use mathlib.Core.Path.{sym, ◌∙◌}
 use Rattle.model.specs.Rules.{tidy}
-use Rattle.entries.proofs.Forms.{as_table, as_pairs, at_sorted}
+use Rattle.lists.proofs.Forms.{as_table, as_pairs, at_sorted}
 use Rattle.return_joining.proofs.Rejoined.{by_table, by_slots}
 use Rattle.return_joining.proofs.give_back.Goals as goal
 

@@ -1,7 +1,7 @@
 -- `give_back`: the tests in their order, and then the list of the kind.
 use native.Mathlib.Omega.{arith}
-use Rattle.entries.specs.Whole.{slots_at}
-use Rattle.entries.proofs.Whole.{does_refuse, does_count}
+use Rattle.lists.specs.Whole.{slots_at}
+use Rattle.lists.proofs.Whole.{does_refuse, does_count}
 use Rattle.returns.proofs.Giving.{nothing_given, above_top_holds, free_before, in_neither}
 use Rattle.returns.proofs.give_back.Goals as goal
 

@@ -28,8 +28,8 @@ make_open-done-requires c = going_ruled c.loop-made.invariant.0
 pub close_tested-requires : goal.close_tested-requires
 close_tested-requires c = going_closes c.loop-made.invariant.0
 
-pub change_form-called-requires : goal.change_form-called-requires
-change_form-called-requires c = record {
+pub change_form-answer-requires : goal.change_form-answer-requires
+change_form-answer-requires c = record {
   tested_value = going_tested c.loop-made.invariant.0 _ c.close_tested.ensures;
   listed = form_in_list _ _ _ _ _ (ap Some (sym c.in-Change.is) ∙ sym c.in-Some.is ∙ c.decode-decoded.ensures);
 }
@@ -41,11 +41,11 @@ loop-made-preserved c =
     let room : 5 * c.loop-made.made + 5 ≤ length c.loop-made.answers = omega (arith, c.if-answers-at-lt5.false) in (
       elim c.match-command.branch [
         | in-Keep w ↦
-            rw (w.allocator-is, w.opened-is, w.slots-is, w.words-is, w.answers-is, w.held-is)
+            rw (w.a-is, w.opened-is, w.slots-is, w.words-is, w.answers-is, w.held-is)
             (going_kept s more _ _ (chunk_decoded c.args.areas.now c.args.calls.now c.loop-made.made _ c.as_chunks.ensures.front (omega arith) c.decode-decoded.ensures) c.in-Some.is room w.in-Keep.is w.make_open-done.ensures _ w.put_answer.ensures (omega arith) (omega arith) (omega arith) (omega arith))
         | in-Change w ↦
-            rw (w.allocator-is, w.opened-is, w.slots-is, w.words-is, w.answers-is, w.held-is)
-            (going_changed s more _ _ (chunk_decoded c.args.areas.now c.args.calls.now c.loop-made.made _ c.as_chunks.ensures.front (omega arith) c.decode-decoded.ensures) c.in-Some.is room w.in-Change.is _ w.close_tested.ensures w.change_form-called.ensures _ w.put_answer-in-Change.ensures (omega arith) (omega arith) w.take_apart-opened.ensures (omega arith))
+            rw (w.a-is, w.opened-is, w.slots-is, w.words-is, w.answers-is, w.held-is)
+            (going_changed s more _ _ (chunk_decoded c.args.areas.now c.args.calls.now c.loop-made.made _ c.as_chunks.ensures.front (omega arith) c.decode-decoded.ensures) c.in-Some.is room w.in-Change.is _ w.close_tested.ensures w.change_form-answer.ensures _ w.put_answer-in-Change.ensures (omega arith) (omega arith) w.take_apart-opened.ensures (omega arith))
       ],
       c.loop-made.invariant.1,
     )

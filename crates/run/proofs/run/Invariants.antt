@@ -8,5 +8,5 @@ use Rattle.run.proofs.run.Given as goal
 
 abbrev pub invariant-loop-made : goal.invariant-loop-made
 invariant-loop-made l =
-    Going l.areas l.calls l.initial.allocator l.initial.words l.initial.answers l.initial.held l.opened.tested l.made l.allocator l.opened.header l.slots l.words l.answers l.held
+    Going l.areas l.calls l.initial.a l.initial.words l.initial.answers l.initial.held l.opened.tested l.made l.a l.opened.header l.slots l.words l.answers l.held
     × (l.ending ≡ record { made = length l.calls / 3; end = Done })

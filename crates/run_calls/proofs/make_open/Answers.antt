@@ -2,14 +2,14 @@
 use mathlib.Core.Path.{sym, ap, subst, ◌∙◌}
 use Rattle.model.specs.Lists.{Lists}
 use Rattle.model.specs.declared.Answer.{Answer}
-use Rattle.entries.specs.Whole.{lists_in, answered_with}
+use Rattle.lists.specs.Whole.{lists_in, handed_with}
 use Rattle.query_core.specs.Listed.{Listed}
 use Rattle.run_calls.specs.Made.{refused}
 use Rattle.run_calls.proofs.Making.{goes_ruled, goes_long_held, held_made}
 use Rattle.run_calls.proofs.make_open.Goals as goal
 
 pub returns-in-Err : goal.returns-in-Err
-returns-in-Err c = refused c.in-Err.refusal (sym c.check_call.ensures ∙ c.in-Err.is) (c.answered.ensures ∙ ap (λ (x : Answer). answered_with x c.args.opened.header) c.from.ensures)
+returns-in-Err c = refused c.in-Err.refusal (sym c.check_call.ensures ∙ c.in-Err.is) (c.answered.ensures ∙ ap (λ (x : Answer). handed_with x c.args.opened.header) c.from.ensures)
 
 pub operate-requires : goal.operate-requires
 operate-requires c = goes_ruled c.args.call c.args.opened.tested c.args.held.now c.check_call.ensures c.in_default.is c.args.slots.now c.args.words.now c.requires

@@ -11,7 +11,6 @@ const PART: usize = 1024;
 /// of them than a sort writes.
 pub static UNREAD: [u64; 4101] = [0xfeed_face_cafe_beef; 4101];
 
-// A `bool` of the library is a byte that is 0 or 1. Read as a number, so that any other value shows.
 #[repr(C)]
 #[derive(Clone, Copy, PartialEq, Eq)]
 pub struct EarlyList {

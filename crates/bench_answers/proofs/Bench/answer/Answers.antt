@@ -17,27 +17,27 @@ returns-in-Boot c = rw (sym c.read_command.ensures ∙ c.in-Some.is ∙ ap Some 
 pub returns-in-Sort : goal.returns-in-Sort
 unfolding answered
 returns-in-Sort c =
-    rw (sym c.read_command.ensures ∙ c.in-Some.is ∙ ap Some c.in-Sort.is) (tells c.requires c.convert_frame_allocator_to_heap_based.ensures c.tell.ensures.bench c.tell.ensures.text)
+    rw (sym c.read_command.ensures ∙ c.in-Some.is ∙ ap Some c.in-Sort.is) (tells c.args.self.now c.requires c.convert_frame_allocator_to_heap_based.ensures (alone _ c.clear.ensures c.write_answer.ensures))
 
 pub returns-in-Count : goal.returns-in-Count
 unfolding answered
 returns-in-Count c =
-    rw (sym c.read_command.ensures ∙ c.in-Some.is ∙ ap Some c.in-Count.is) (tells c.requires c.allocate.ensures c.tell-in-Count.ensures.bench c.tell-in-Count.ensures.text)
+    rw (sym c.read_command.ensures ∙ c.in-Some.is ∙ ap Some c.in-Count.is) (tells c.args.self.now c.requires c.allocate.ensures (alone _ c.clear.ensures c.write_answer-in-Count.ensures))
 
 pub returns-in-At : goal.returns-in-At
 unfolding answered
 returns-in-At c =
-    rw (sym c.read_command.ensures ∙ c.in-Some.is ∙ ap Some c.in-At.is) (tells c.requires c.allocate-in-At.ensures c.tell-in-At.ensures.bench c.tell-in-At.ensures.text)
+    rw (sym c.read_command.ensures ∙ c.in-Some.is ∙ ap Some c.in-At.is) (tells c.args.self.now c.requires c.allocate-in-At.ensures (alone _ c.clear.ensures c.write_answer-in-At.ensures))
 
 pub returns-in-Give : goal.returns-in-Give
 unfolding answered
 returns-in-Give c =
-    rw (sym c.read_command.ensures ∙ c.in-Some.is ∙ ap Some c.in-Give.is) (tells c.requires c.return_frames.ensures c.tell-in-Give.ensures.bench c.tell-in-Give.ensures.text)
+    rw (sym c.read_command.ensures ∙ c.in-Some.is ∙ ap Some c.in-Give.is) (tells c.args.self.now c.requires c.return_frames.ensures (alone _ c.clear.ensures c.write_answer-in-Give.ensures))
 
 pub returns-in-Lists : goal.returns-in-Lists
 unfolding answered
-returns-in-Lists c = rw (sym c.read_command.ensures ∙ c.in-Some.is ∙ ap Some c.in-Lists.is) (says c.requires c.list.ensures)
+returns-in-Lists c = rw (sym c.read_command.ensures ∙ c.in-Some.is ∙ ap Some c.in-Lists.is) (says c.args.self.now c.requires c.list.ensures)
 
 pub returns-in_default : goal.returns-in_default
 unfolding answered
-returns-in_default c = rw (sym c.read_command.ensures ∙ c.in_default.is) (says c.requires (alone bad_line c.clear.ensures c.put_text.ensures))
+returns-in_default c = rw (sym c.read_command.ensures ∙ c.in_default.is) (says c.args.self.now c.requires (alone bad_line c.clear.ensures c.put_text.ensures))

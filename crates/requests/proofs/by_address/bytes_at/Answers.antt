@@ -1,5 +1,5 @@
 -- `bytes_at`: 2 for an address above the limit, or for more bytes than there are addresses.
-use Rattle.entries.proofs.Whole.{does_refuse}
+use Rattle.lists.proofs.Whole.{does_refuse}
 use Rattle.requests.proofs.Asked.{address_over, address_bytes_over}
 use Rattle.requests.proofs.by_address.bytes_at.Goals as goal
 

@@ -4,10 +4,10 @@ use mathlib.Core.Path.{◌≡◌, sym, ap, ◌∙◌}
 use Rattle.std.specs.Prelude.{Err}
 use Rattle.model.specs.Requests.{missing}
 use Rattle.model.specs.declared.refusals.Refusal.{Refusal}
-use Rattle.entries.specs.Whole.{lists_in, slots_at}
+use Rattle.lists.specs.Whole.{lists_in, slots_at}
 use Rattle.request_grants.proofs.Chosen.{search_chooses}
-use Rattle.entries.specs.declared.header.WhichList.TheVariants.{ReservedFree}
-use Rattle.entries.proofs.Whole.{tidy_list, does_refuse, does_as}
+use Rattle.lists.specs.declared.header.WhichList.TheVariants.{ReservedFree}
+use Rattle.lists.proofs.Whole.{tidy_list, does_refuse, does_as}
 use Rattle.requests.proofs.Asked.{some_frames, address_refused, address_on}
 use Rattle.requests.proofs.Searched.{said_not, said_missing, said_short, said_chunks, missing_count, reserved_not, reserved_missing, reserved_short, reserved_chunks}
 use Rattle.requests.proofs.by_address.frames_at.Goals as goal

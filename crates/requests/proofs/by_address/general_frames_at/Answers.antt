@@ -2,9 +2,9 @@
 use Rattle.std.proofs.Common.{rules}
 use mathlib.Core.Path.{◌≡◌, sym, ◌∙◌}
 use Rattle.std.specs.Prelude.{Err}
-use Rattle.entries.specs.Whole.{lists_in, slots_at}
+use Rattle.lists.specs.Whole.{lists_in, slots_at}
 use Rattle.request_grants.proofs.Chosen.{search_chooses}
-use Rattle.entries.proofs.Whole.{does_as}
+use Rattle.lists.proofs.Whole.{does_as}
 use Rattle.requests.proofs.Asked.{some_frames, general_refused, general_on}
 use Rattle.requests.proofs.Searched.{said_chunks, only_chunks, only_refused}
 use Rattle.requests.proofs.by_address.general_frames_at.Goals as goal

@@ -2,10 +2,10 @@
 use Rattle.std.proofs.Common.{rules}
 use mathlib.Core.Path.{sym, ap, ◌∙◌}
 use Rattle.std.specs.Prelude.{Err}
-use Rattle.entries.specs.Whole.{lists_in, slots_at}
+use Rattle.lists.specs.Whole.{lists_in, slots_at}
 use Rattle.model.specs.declared.refusals.Refusal.{Refusal}
 use Rattle.request_grants.proofs.Chosen.{search_chooses}
-use Rattle.entries.proofs.Whole.{does_as, does_refuse}
+use Rattle.lists.proofs.Whole.{does_as, does_refuse}
 use Rattle.requests.proofs.Searched.{said_missing, said_short, said_chunks, general_missing, general_short, general_chunks}
 use Rattle.requests.proofs.by_address.in_general_list.Goals as goal
 

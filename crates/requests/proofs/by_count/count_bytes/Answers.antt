@@ -1,5 +1,5 @@
 -- `count_bytes`: 2 for more bytes than there are addresses.
-use Rattle.entries.proofs.Whole.{does_refuse}
+use Rattle.lists.proofs.Whole.{does_refuse}
 use Rattle.requests.proofs.Counted.{bytes_over}
 use Rattle.requests.proofs.by_count.count_bytes.Goals as goal
 

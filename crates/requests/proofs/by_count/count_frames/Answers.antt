@@ -7,9 +7,9 @@ use lib.ListN.{length}
 use Rattle.std.specs.Prelude.{None, Some}
 use Rattle.model.specs.Lists.{Slot, range_at}
 use Rattle.model.specs.Requests.{large_enough}
-use Rattle.entries.specs.declared.header.WhichList.TheVariants.{GeneralFree}
-use Rattle.entries.specs.Whole.{lists_in, slots_at}
-use Rattle.entries.proofs.Whole.{tidy_list, does_as, does_refuse}
+use Rattle.lists.specs.declared.header.WhichList.TheVariants.{GeneralFree}
+use Rattle.lists.specs.Whole.{lists_in, slots_at}
+use Rattle.lists.proofs.Whole.{tidy_list, does_as, does_refuse}
 use Rattle.request_search.specs.Searches.{one_chunk}
 use Rattle.requests.proofs.Counted.{count_none, count_on, no_chunk, place_taken, beginning_chosen, beginning_low}
 use Rattle.requests.proofs.by_count.count_frames.Goals as goal

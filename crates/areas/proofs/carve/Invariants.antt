@@ -1,6 +1,0 @@
--- `carve`: at each turn the general areas before i are carved.
-use Rattle.areas.proofs.Steps.{Carving}
-use Rattle.areas.proofs.carve.Given as goal
-
-abbrev pub invariant-loop-i : goal.invariant-loop-i
-invariant-loop-i g l = Carving l.reserved (g.M.BootMap.areas l.map) l.pieces.items l.i

@@ -1,6 +1,0 @@
--- `absorb`: at each turn the first area has taken in what it met of those passed.
-use Rattle.joining.proofs.Joining.{Absorbing}
-use Rattle.joining.proofs.absorb.Given as goal
-
-abbrev pub invariant-loop-other : goal.invariant-loop-other
-invariant-loop-other l = Absorbing l.fn.first l.others l.area l.rest.items l.other-index

@@ -1,4 +1,0 @@
-pub mod Turns
-pub mod Closing
-pub mod Packed
-pub mod Lending

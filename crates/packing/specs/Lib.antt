@@ -1,2 +1,0 @@
-pub mod Packed
-pub mod Open

@@ -1,9 +1,0 @@
--- `contains_any_from`: at each turn none of the slots before i meets the range.
-use mathlib.Core.Path.{◌≡◌}
-use Rattle.memory_structs.specs.Range.{meets}
-use Rattle.model.specs.Lists.{any_of}
-use Rattle.pairs.proofs.Turns.{left}
-use Rattle.pairs.proofs.Slots.contains_any_from.Given as goal
-
-abbrev pub invariant-loop-i : goal.invariant-loop-i
-invariant-loop-i l = any_of (meets l.range) (left l.first l.self.words.now) ≡ any_of (meets l.range) (left l.i l.self.words.now)

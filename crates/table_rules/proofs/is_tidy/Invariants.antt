@@ -1,6 +1,0 @@
--- `is_tidy`: the pairs passed have frames, each above the one before it.
-use Rattle.table_rules.proofs.Spacing.{InOrder}
-use Rattle.table_rules.proofs.is_tidy.Given as goal
-
-abbrev pub invariant-loop-i : goal.invariant-loop-i
-invariant-loop-i l = InOrder l.i l.table.words.now
