@@ -258,7 +258,7 @@ likhmout_answer likhmout_free_total(
     const likhmout_frame_allocator *a, const uint64_t *words, size_t words_len, uint64_t kind);
 
 /* count: how many maximal runs of general frames are not free. They are at the beginning of the buffer, two words each, first and last
- * frame, in an order that document 01 leaves open; the words after them keep their values. Refused: 3, 11. */
+ * frame, in ascending order of first frame; the words after them keep their values. Refused: 3, 11. */
 likhmout_answer likhmout_held_list(
     const likhmout_frame_allocator *a, const uint64_t *words, size_t words_len, uint64_t *buffer,
     size_t buffer_len);
@@ -278,7 +278,7 @@ typedef enum likhmout_call {
     LIKHMOUT_CALL_RETURN = 8,           /* first frame, last frame */
     LIKHMOUT_CALL_KIND_OF_RANGE = 9,    /* first frame, last frame */
     LIKHMOUT_CALL_FREE_TOTAL = 10,      /* kind */
-    LIKHMOUT_CALL_HELD_LIST = 11        /* written to `held` */
+    LIKHMOUT_CALL_HELD_LIST = 11        /* written to `held` as likhmout_held_list writes it */
 } likhmout_call;
 
 likhmout_run_counts likhmout_run(

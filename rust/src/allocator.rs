@@ -229,8 +229,8 @@ impl<W: Workspace> Allocator<W> {
         answer.accepted().map(|accepted| accepted.count)
     }
 
-    /// The maximal runs of general frames that are not free, at the beginning of the buffer, in an order that document 01 leaves
-    /// open. A buffer of fewer than [`crate::HELD_WORDS`] words is refused with 3.
+    /// The maximal runs of general frames that are not free, at the beginning of the buffer, in ascending order of first frame. A
+    /// buffer of fewer than [`crate::HELD_WORDS`] words is refused with 3.
     pub fn held_list<'b>(&self, buffer: &'b mut [u64]) -> Result<&'b [FrameRange], Refusal> {
         let words = self.workspace.words();
         let answer = unsafe {

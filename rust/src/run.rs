@@ -73,7 +73,7 @@ impl Call {
         Call::of(10, kind as u64, 0)
     }
 
-    /// The held list, which goes to the run's buffer.
+    /// The held list, which goes to the run's buffer as [`crate::Allocator::held_list`] writes it.
     pub const fn held_list() -> Call {
         Call::of(11, 0, 0)
     }

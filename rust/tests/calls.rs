@@ -161,11 +161,18 @@ fn questions() {
     assert_eq!(allocator.kind_of_range(range(0, 30)), Ok(Kind::General));
     assert_eq!(allocator.kind_of_range(range(30, 100)), Ok(Kind::Reserved));
     let mut buffer = [7; HELD_WORDS];
-    let mut runs = allocator.held_list(&mut buffer).unwrap().to_vec();
-    runs.sort_by_key(|run| run.start);
-    assert_eq!(runs, [range(5, 7), range(10, 10)]);
+    assert_eq!(allocator.held_list(&mut buffer).unwrap(), [range(5, 7), range(10, 10)]);
     assert_eq!(buffer[4..], [7; HELD_WORDS - 4]);
     assert_eq!(allocator.held_list(&mut buffer[1..]), Err(Refusal::LentTooShort));
+}
+
+#[test]
+fn the_held_list_ascends_whatever_the_slots() {
+    let mut allocator = booted(&[general(2, 2), general(0, 0)]);
+    assert_eq!(allocator.allocate_frames(1), Ok(range(2, 2)));
+    assert_eq!(allocator.allocate_frames(1), Ok(range(0, 0)));
+    let mut buffer = [7; HELD_WORDS];
+    assert_eq!(allocator.held_list(&mut buffer).unwrap(), [range(0, 0), range(2, 2)]);
 }
 
 #[test]

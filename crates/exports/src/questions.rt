@@ -28,8 +28,8 @@ pub extern "C" fn likhmout_free_total(a: &FrameAllocator, words: &[u64], kind: u
     frame_allocator::free_total(a, words, Kind::from(kind))
 }
 
-// count: how many runs are held. They are at the beginning of the buffer, as first and last frame, in an order that document 01 leaves
-// open. A buffer below 2,048 words is 3.
+// count: how many runs are held. They are at the beginning of the buffer, as first and last frame, in ascending order of first frame. A
+// buffer below 2,048 words is 3.
 #[unsafe(no_mangle)]
 pub extern "C" fn likhmout_held_list(
     a: &FrameAllocator,

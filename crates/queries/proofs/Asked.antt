@@ -1,6 +1,6 @@
 -- A question goes by the number of the test, the held list by the length of its buffer before that.
 use Prim.Native.Nat.{ℕ, ◌≤◌, ◌<◌}
-use mathlib.Core.Path.{◌≡◌, refl, sym, ap, subst, ◌∙◌}
+use mathlib.Core.Path.{◌≡◌, sym, ap, subst, ◌∙◌}
 use mathlib.Core.Bool.{false}
 use mathlib.Core.List.{List}
 use lib.ListN.{length}
@@ -13,6 +13,7 @@ use Rattle.model.specs.declared.FrameAllocator.{FrameAllocator}
 use Rattle.model.specs.declared.refusals.Refusal.{Refusal}
 use Rattle.model.specs.declared.refusals.Refusal.TheVariants.{TooFewWords}
 use Rattle.model.specs.Refusals.{number, refused_answer}
+use Rattle.model.proofs.Unchanged.{refused_left}
 use Rattle.rules.proofs.Refusals.{numbered, answers_number}
 use Rattle.std.specs.Prelude.{Ok, Err}
 use Rattle.rules.specs.Check.{verdict}
@@ -45,7 +46,7 @@ module _ (a : FrameAllocator) (ws before : List ℕ) where
   kept : (r : Refusal) → {x : Answer} → x ≡ refused_answer r → Answers listing a ws x → ListsHeld a ws before x before
   kept r e k =
       let same : (call listing a ws).answer.number ≡ number r = sym (ap (λ (y : Answer). y.number) k) ∙ ap (λ (y : Answer). y.number) e ∙ answers_number r in
-      record { answers = k; buffer = record { accepted = λ h. absurd (numbered r (sym same ∙ h)); otherwise = λ h. refl } }
+      record { answers = k; buffer = sym (refused_left listing a ws before (λ h. numbered r (sym same ∙ h))) }
 
   pub held_short : length before < 2048 → {x : Answer} → x ≡ refused_answer TooFewWords → ListsHeld a ws before x before
   unfolding short_buffer unchanged
@@ -63,7 +64,7 @@ module _ (a : FrameAllocator) (ws before : List ℕ) where
     pub held_read : (l : FourLists) → MayRead a ws l → {x : Answer} {after : List ℕ} → Listed (lists_of l) before x after → ListsHeld a ws before x after
     held_read l m {x} {after} listed =
         let d : Listed (load a ws) before x after = subst (λ (y : Lists). Listed y before x after) m.loads listed in
-        held_going a ws (passed_number a ws m.passes) before h d.answers d.written
+        held_going a ws (passed_number a ws m.passes) before h d.answers d.buffer
 
 -- a record that the test let go on, opened
 module _ {a : FrameAllocator} {ws : List ℕ} {o : Opened} {es : List ℕ} (p : Opens a ws o es) (z : o.tested ≡ Ok tt) where

@@ -35,9 +35,8 @@ pub fn free_total(a: &FrameAllocator, words: &[u64], kind: Kind) -> Answer
     }
 }
 
-// "**held list**, the maximal runs of general frames not free, as pairs of words [..] Its order is left open". A buffer below 2,048 words
-// is 3, before 11.
-#[tactic(auto, using(crate::proofs::Asked::held_short))]
+// "**held list**, the maximal runs of general frames not free, as pairs of words", and of document 02, One: "in ascending order of first
+// frame". A buffer below 2,048 words is 3, before 11.
 pub fn held_list(a: &FrameAllocator, words: &[u64], buffer: &mut [u64]) -> Answer
     ensures { ListsHeld a.now words.now buffer.old result buffer.new }
 {

@@ -3,11 +3,11 @@
 
 ghost use Rattle.std.specs.Prelude.{◌≡◌, true, ◌≤◌, length};
 ghost use Rattle.model.specs.Rules.{tidy};
-ghost use Rattle.model.specs.Queries.{kind_of, total, HeldWritten};
+ghost use Rattle.model.specs.Queries.{kind_of, total};
 ghost use Rattle.pairs.specs.Early.{early_slots};
 ghost use Rattle.lists.specs.Listed.{lists_of};
 ghost use Rattle.pairs.specs.Ordered.{in_order};
-ghost use Rattle.query_held.specs.Runs.{two_tables};
+ghost use Rattle.query_held.specs.Runs.{two_tables, HeldWritten};
 ghost use Rattle.query_core.specs.Kinds.{free_list};
 ghost use Rattle.query_core.specs.Listed.{Listed};
 
@@ -55,7 +55,8 @@ fn free_list(kind: Kind) -> WhichList
     }
 }
 
-// "**held list**, the maximal runs of general frames not free". The runs go to the beginning of the buffer, and their number is the count.
+// "**held list**, the maximal runs of general frames not free", "in ascending order of first frame" (document 02, One). The runs go to the
+// beginning of the buffer, and their number is the count.
 #[tactic(auto, using(crate::proofs::Forms::regions_in_order, crate::proofs::Forms::chunks_in_order))]
 pub fn held_list(lists: FourLists, buffer: &mut [u64]) -> Answer
     requires { 2048 ≤ length buffer.old }

@@ -1,28 +1,21 @@
 -- Runs as a stack, the newest first, and what they say of the held frames below a mark.
-use Rattle.model.proofs.Held.{bit_true}
 use Prim.Native.Nat.{ℕ, ◌+◌, ◌-◌, ◌≤◌, ◌<◌}
 use native.Mathlib.Omega.{arith}
 use mathlib.Core.Path.{◌≡◌, refl, sym, ap, subst, ◌∙◌}
 use mathlib.Core.Bool.{Bool, true, false}
-use mathlib.Core.List.{List, [], ◌∷◌, ◌++◌}
+use mathlib.Core.List.{List, [], ◌∷◌, ◌++◌, append_assoc, append-nil}
 use lib.Dec.{leb, ltb, eqb}
 use borrow.Author.Tests.{leb-true, leb-false, ltb-true, ltb-false, eqb-true, eqb-false}
 use Rattle.std.specs.Prelude.{if◌then◌else◌}
-use Rattle.memory_structs.specs.Range.{range, covers}
+use Rattle.memory_structs.specs.Range.{range}
 use Rattle.memory_structs.specs.declared.range.FrameRange.{FrameRange}
-use Rattle.memory_structs.proofs.Cover.{cov, cov_in, cov_below, cov_above, cov_cases, covers_bit, covers_low, covers_high}
+use Rattle.memory_structs.proofs.Cover.{cov, cov_in, cov_below, cov_above, cov_cases}
 use Rattle.model.specs.Lists.{Lists, times}
-use Rattle.model.specs.Rules.{Each}
-use Rattle.model.specs.Queries.{is_held, Run, HeldList}
+use Rattle.model.specs.Queries.{is_held, held_list}
+use Rattle.model.proofs.Held.{held_list_parted}
+use Rattle.model.proofs.Lawful.{AllSound}
+use Rattle.model.proofs.Parted.{times_none, times_cons, Parted, parted_lower}
 use Rattle.model.proofs.Trace.{bit}
-
-times_cons : (f : ℕ) (r : FrameRange) (rs : List FrameRange) → times f (r ∷ rs) ≡ cov r f + times f rs
-unfolding times
-times_cons f r rs = ap (λ (n : ℕ). n + times f rs) (covers_bit r f)
-
-times_none : (f : ℕ) → times f [] ≡ 0
-unfolding times
-times_none f = refl
 
 -- runs that end below p, with a frame between one and the next
 unfoldable pub Down : ℕ → List FrameRange → Type 0
@@ -127,38 +120,6 @@ module _ (H : ℕ → Bool) where
 
 -- ---- the whole list
 
-bit_none : (b : Bool) → bit b ≡ 0 → b ≡ false
-bit_none true h = absurd (omega arith)
-bit_none false h = refl
-
-each_run : (l : Lists) (q : ℕ) (rs : List FrameRange) → Down q rs → ((f : ℕ) → f < q → times f rs ≡ bit (is_held l f)) → (0 < q → is_held l q ≡ false) → Each (Run l) rs
-unfolding Down Each
-each_run l q [] d a b = tt
-each_run l q (r ∷ rs) d a b = (
-  record { filled = d.0; held = held; below = below; above = above (ltb (r.end + 1) q) refl },
-  each_run l (r.start - 1) rs d.2 (λ f h. rest f h) (λ h. below (r.start - 1) (omega arith)),
-)
-  where
-    held : (f : ℕ) → covers r f ≡ true → is_held l f ≡ true
-    held f c =
-        let x = covers_low r f c in
-        let y = covers_high r f c in
-        bit_true (is_held l f) (omega (arith, a f (omega (arith, y, d.1)), times_cons f r rs, cov_in r f x y))
-
-    below : (f : ℕ) → f + 1 ≡ r.start → is_held l f ≡ false
-    below f e = bit_none (is_held l f) (omega (arith, a f (omega (arith, d.0, d.1)), times_cons f r rs, cov_below r f (omega arith), down_none (r.start - 1) rs d.2 f (omega arith)))
-
-    above : (t : Bool) → ltb (r.end + 1) q ≡ t → is_held l (r.end + 1) ≡ false
-    above true t =
-        bit_none (is_held l (r.end + 1))
-        (omega (arith, a (r.end + 1) (ltb-true (r.end + 1) q t), times_cons (r.end + 1) r rs, cov_above r (r.end + 1) (omega arith), down_none (r.start - 1) rs d.2 (r.end + 1) (omega (arith, d.0))))
-    above false t =
-        let e : q ≡ r.end + 1 = omega (arith, ltb-false (r.end + 1) q t, d.1) in
-        subst (λ (n : ℕ). is_held l n ≡ false) e (b (omega (arith, d.1)))
-
-    rest : (f : ℕ) → f < r.start - 1 → times f rs ≡ bit (is_held l f)
-    rest f h = omega (arith, a f (omega (arith, d.0, d.1)), times_cons f r rs, cov_below r f (omega arith))
-
 -- the oldest first
 unfoldable pub up : List FrameRange → List FrameRange
 up [] = []
@@ -174,22 +135,19 @@ unfolding up
 times_up f [] = refl
 times_up f (r ∷ rs) = omega (arith, times_append f (up rs) (r ∷ []), times_cons f r [], times_cons f r rs, times_up f rs, times_none f)
 
-each_snoc : (P : FrameRange → Type 0) (rs : List FrameRange) (r : FrameRange) → Each P rs → P r → Each P (rs ++ r ∷ [])
-unfolding Each
-each_snoc P [] r a p = (p, tt)
-each_snoc P (q ∷ rs) r a p = (a.0, each_snoc P rs r a.1 p)
+-- and so with a frame between one and the next
+up_parted : (p q : ℕ) (rs qs : List FrameRange) → Down p rs → Parted q qs → p ≤ q - 1 → Parted 0 (up rs ++ qs)
+unfolding Down Parted up
+up_parted p q [] qs d e h = parted_lower q 0 qs (omega arith) e
+up_parted p q (r ∷ rs) qs d e h =
+    subst (Parted 0) (sym (append_assoc (up rs) (r ∷ []) qs))
+    (up_parted (r.start - 1) r.start rs (r ∷ qs) d.2 (omega arith, d.0, parted_lower q (r.end + 2) qs (omega (arith, d.1)) e) (omega arith))
 
-each_up : (P : FrameRange → Type 0) (rs : List FrameRange) → Each P rs → Each P (up rs)
-unfolding Each up
-each_up P [] a = tt
-each_up P (r ∷ rs) a = each_snoc P (up rs) r (each_up P rs a.1) a.0
-
--- no frame from p on is held: the runs are all of them
-pub upto_held : (l : Lists) (p : ℕ) (rs : List FrameRange) → Upto (is_held l) p rs → ((f : ℕ) → p ≤ f → is_held l f ≡ false) → HeldList l (up rs)
-upto_held l p rs u none = record {
-  runs = each_up (Run l) rs (each_run l p rs u.down u.exact (λ h. none p (omega arith)));
-  once = λ f. times_up f rs ∙ go f (ltb f p) refl;
-}
+-- no frame from p on is held: the runs are the held list
+pub upto_held : (l : Lists) → AllSound l.general_regions → (p : ℕ) (rs : List FrameRange) → Upto (is_held l) p rs → ((f : ℕ) → p ≤ f → is_held l f ≡ false) → up rs ≡ held_list l
+unfolding Parted
+upto_held l a p rs u none =
+    held_list_parted l a (up rs) (subst (Parted 0) (append-nil (up rs)) (up_parted p (p + 1) rs [] u.down tt (omega arith))) (λ f. times_up f rs ∙ go f (ltb f p) refl)
   where
     go : (f : ℕ) (b : Bool) → ltb f p ≡ b → times f rs ≡ bit (is_held l f)
     go f true e = u.exact f (ltb-true f p e)

@@ -14,13 +14,14 @@ use Rattle.memory_structs.proofs.Cover.{cov, cov_in, cov_below, cov_above, cover
 use Rattle.model.specs.Lists.{Lists, Slot, unused, used, entries, any_of}
 use Rattle.model.specs.Rules.{tidy}
 use Rattle.model.specs.Store.{table_slots}
-use Rattle.model.specs.Queries.{is_held, pairs, written, HeldWritten}
+use Rattle.model.specs.Queries.{is_held, held_list, pairs, written}
 use Rattle.model.proofs.Cover.{tally}
+use Rattle.model.proofs.Ruled.{tidy_is}
 use Rattle.model.proofs.Trace.{bit}
 use Rattle.tables.proofs.Search.{pair_at, slots_cons}
 use Rattle.tables.proofs.Spaced.{Spaced, tidy_spaced, spaced_lower, none_under}
 use Rattle.tables.proofs.Sums.{tidy_few}
-use Rattle.query_held.specs.Runs.{two_tables, next_start, put_count, put_words}
+use Rattle.query_held.specs.Runs.{two_tables, HeldWritten, next_start, put_count, put_words}
 use Rattle.query_held.proofs.Stack.{Upto, upto_none, join_run, put_run, upto_put, up, upto_held}
 use Rattle.query_held.proofs.Put.{stacked, stacked_length, put_words_holds, put_count_holds}
 use Rattle.query_held.proofs.Steps.{a_chunk, is_chunk}
@@ -175,14 +176,19 @@ module _ {m : ℕ} {us : List ℕ} {n : ℕ} {ws base now : List ℕ} {i j from 
   l = two_tables (table_slots m us) (table_slots n ws)
 
   -- no region is left
-  pub walk_ends : m ≤ i → HeldWritten l k base now
-  unfolding stacked
-  walk_ends h = record {
-    list = up w.stack;
-    number = w.count ∙ sym (length_up w.stack);
-    held = upto_held l from w.stack w.upto (λ f g. held_outside (table_slots m us) (table_slots n ws) f (past_none m us i from w.regions h f g));
-    words = w.words;
-  }
+  module _ (h : m ≤ i) where
+    stack_listed : up w.stack ≡ held_list l
+    unfolding two_tables
+    stack_listed =
+        upto_held l (tidy_is true (table_slots m us) w.regions_tidy).shape.sound from w.stack w.upto
+        (λ f g. held_outside (table_slots m us) (table_slots n ws) f (past_none m us i from w.regions h f g))
+
+    pub walk_ends : HeldWritten l k base now
+    unfolding stacked
+    walk_ends = record {
+      counted = w.count ∙ sym (length_up w.stack) ∙ ap length stack_listed;
+      buffer = w.words ∙ ap (λ (rs : List FrameRange). written rs base) stack_listed;
+    }
 
   few : 2 * k ≤ 2048
   few = omega (arith, w.room, w.regions.few, w.chunks.few, tidy_few m us w.regions_tidy, tidy_few n ws w.chunks_tidy)

@@ -1,12 +1,18 @@
 -- The held list's runs in the shape of their code. The words in quotes are document 01's.
-use Rattle.std.specs.Prelude.{ℕ, ◌+◌, ◌-◌, ◌*◌, Bool, true, false, List, [], get_or, set, leb, ltb, eqb}
+use Rattle.std.specs.Prelude.{ℕ, ◌+◌, ◌-◌, ◌*◌, ◌≡◌, Bool, true, false, List, [], length, get_or, set, leb, ltb, eqb}
 use Rattle.std.specs.Prelude.{if◌then◌else◌, Option, None, Some}
 use Rattle.model.specs.Lists.{Lists, Slot}
+use Rattle.model.specs.Queries.{held_list, written}
 
 -- lists with these general regions and these free chunks, and no others: all that says which frames are held
 unfoldable pub two_tables : List Slot → List Slot → Lists
 two_tables regions chunks =
     record { sorted = true; general_free = chunks; reserved_free = []; general_regions = regions; reserved_regions = [] }
+
+-- "as pairs of words; buffer words after the last pair keep their values", and how many
+pub record HeldWritten (l : Lists) (count : ℕ) (before after : List ℕ) : Type 0 where
+  pub counted : count ≡ length (held_list l)
+  pub buffer : after ≡ written (held_list l) before
 
 -- where the pair at j starts, where there is one
 unfoldable pub next_start : ℕ → List ℕ → ℕ → Option ℕ

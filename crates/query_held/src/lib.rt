@@ -1,11 +1,11 @@
-// The held list's runs: document 01, "**held list**, the maximal runs of general frames not free, as pairs of words".
+// The held list's runs: document 01, "**held list**, the maximal runs of general frames not free, as pairs of words"; document 02, One: "Give
+// the runs in ascending order of first frame."
 #![tactic(auto)]
 
 ghost use Rattle.std.specs.Prelude.{◌≡◌, true, ◌+◌, ◌*◌, ◌≤◌, length};
 ghost use Rattle.model.specs.Rules.{tidy};
 ghost use Rattle.tables.specs.Slots.{slots};
-ghost use Rattle.model.specs.Queries.{HeldWritten};
-ghost use Rattle.query_held.specs.Runs.{two_tables, next_start, touches, put_count, put_words};
+ghost use Rattle.query_held.specs.Runs.{two_tables, HeldWritten, next_start, touches, put_count, put_words};
 
 use std::ops::Range;
 use tables::Table;

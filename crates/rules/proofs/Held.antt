@@ -1,16 +1,16 @@
 -- A question of a record that keeps the rules: it is answered as its lists say, and a held list is written.
 use Prim.Native.Nat.{ℕ, ◌≤◌}
-use mathlib.Core.Path.{◌≡◌, sym, ap, subst, ◌∙◌}
+use mathlib.Core.Path.{◌≡◌, sym, ap, ◌∙◌}
 use mathlib.Core.Bool.{false}
 use mathlib.Core.List.{List}
 use lib.ListN.{length}
 use borrow.Author.Tests.{le-ltb}
-use Rattle.model.specs.Requests.{counted}
-use Rattle.model.specs.Queries.{held_runs, HeldWritten}
+use Rattle.model.specs.Queries.{held_list, held_runs, written}
 use Rattle.model.specs.Store.{load}
-use Rattle.model.specs.Calls.{Call, held_call, Outcome, answer, short_buffer, stored, call, Answers, ListsHeld}
+use Rattle.model.specs.Calls.{Call, held_call, Outcome, answer, short_buffer, stored, Answers, held_buffer, ListsHeld}
 use Rattle.model.specs.declared.Answer.{Answer}
 use Rattle.model.specs.declared.FrameAllocator.{FrameAllocator}
+use Rattle.model.proofs.Unchanged.{going_left}
 use Rattle.rules.specs.Check.{checked}
 use Rattle.rules.proofs.Numbers.{accepted_call}
 
@@ -27,15 +27,7 @@ module _ (a : FrameAllocator) (ws : List ℕ) (z : checked a ws ≡ 0) where
     unfolding short_buffer
     long = le-ltb (length before) 2048 h
 
-    pub held_going : {x : Answer} {after : List ℕ} → x ≡ (held_runs (load a ws)).answer → HeldWritten (load a ws) x.count before after → ListsHeld a ws before x after
-    unfolding answer held_runs counted
-    held_going {x} {after} is written =
-        let k : Answers listing a ws x = answers_going listing long is in
-        let number : (call listing a ws).answer.number ≡ 0 = sym (ap (λ (y : Answer). y.number) k) ∙ ap (λ (y : Answer). y.number) is in
-        record {
-          answers = k;
-          buffer = record {
-            accepted = λ n. subst (λ (m : ℕ). HeldWritten (load a ws) m before after) (ap (λ (y : Answer). y.count) k) written;
-            otherwise = λ n. absurd (n number);
-          };
-        }
+    pub held_going : {x : Answer} {after : List ℕ} → x ≡ (held_runs (load a ws)).answer → after ≡ written (held_list (load a ws)) before → ListsHeld a ws before x after
+    unfolding answer held_buffer
+    held_going is words =
+        record { answers = answers_going listing long is; buffer = words ∙ sym (going_left listing a ws before (accepted_call listing a ws long z)) }

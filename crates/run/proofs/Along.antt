@@ -5,15 +5,15 @@ use mathlib.Core.Path.{◌≡◌, refl, sym, ap, subst, ◌∙◌}
 use mathlib.Core.List.{List, [], ◌∷◌, ◌++◌, append_assoc, append-nil}
 use lib.ListN.{length, take, drop, length-append, take-append-drop}
 use lib.Seq.{length-take-le, take_at, drop_at, drop-drop}
-use Rattle.model.specs.Calls.{Call, call}
-use Rattle.model.specs.History.{outcomes, record_after, words_after, Demand3, Holds}
+use Rattle.model.specs.Calls.{Call, call, buffer_left}
+use Rattle.model.specs.History.{outcomes, record_after, words_after, buffer_after, Demand3, Holds}
 use Rattle.model.specs.declared.Answer.{Answer}
 use Rattle.model.specs.declared.Called.{Called}
 use Rattle.model.specs.declared.FrameAllocator.{FrameAllocator}
 use Rattle.model.proofs.Claimed.{demand_3}
 use Rattle.run_calls.specs.Made.{Made}
 use Rattle.run.specs.declared.RunEnd.{RunEnd}
-use Rattle.run.specs.Runs.{ran_to, all_answers, Buffers, none, next, RunsCalls, Demanded}
+use Rattle.run.specs.Runs.{ran_to, all_answers, RunsCalls, Demanded}
 use Rattle.model.specs.Words.{answer_words}
 
 -- ---- one answer
@@ -41,18 +41,18 @@ pub record Along (all : List Call) (first : FrameAllocator) (ws₀ answers₀ he
   pub words : words_after all first ws₀ ≡ words_after rest a ws
   pub answered : all_answers (outcomes all first ws₀) ≡ take (5 * made) answers ++ all_answers (outcomes rest a ws)
   pub beyond : drop (5 * made) answers ≡ drop (5 * made) answers₀
-  pub buffer : (last : List ℕ) → Buffers rest a ws held last → Buffers all first ws₀ held₀ last
+  pub buffer : buffer_after all first ws₀ held₀ ≡ buffer_after rest a ws held
 
 pub along_start : (cs : List Call) (a : FrameAllocator) (ws answers held : List ℕ) → Along cs a ws answers held 0 cs a ws answers held
 along_start cs a ws answers held =
-    record { counted = omega arith; records = refl; words = refl; answered = refl; beyond = refl; buffer = λ last b. b }
+    record { counted = omega arith; records = refl; words = refl; answered = refl; beyond = refl; buffer = refl }
 
 module _ {all : List Call} {first : FrameAllocator} {ws₀ answers₀ held₀ : List ℕ} {made : ℕ} where
   module _ {c : Call} {rest : List Call} {a : FrameAllocator} {ws answers held : List ℕ} (s : Along all first ws₀ answers₀ held₀ made (c ∷ rest) a ws answers held) (h : 5 * made + 5 ≤ length answers) where
     called_next : (x : Answer) → x ≡ (call c a ws).answer → (held_after answers-after : List ℕ) → answers-after ≡ take (5 * made) answers ++ answer_words x ++ drop (5 * made + 5) answers →
-        ((last : List ℕ) → Buffers rest (call c a ws).allocator (call c a ws).words held_after last → Buffers (c ∷ rest) a ws held last) →
+        held_after ≡ buffer_left c a ws held →
         Along all first ws₀ answers₀ held₀ (made + 1) rest (call c a ws).allocator (call c a ws).words answers-after held_after
-    unfolding record_after words_after outcomes all_answers
+    unfolding record_after words_after buffer_after outcomes all_answers
     called_next x k held_after answers-after e b =
         let os = outcomes rest (call c a ws).allocator (call c a ws).words in
         record {
@@ -65,7 +65,7 @@ module _ {all : List Call} {first : FrameAllocator} {ws₀ answers₀ held₀ : 
               ∙ sym (append_assoc (take (5 * made) answers) (answer_words x) (all_answers os))
               ∙ ap (λ (l : List ℕ). l ++ all_answers os) (sym (front answers made x h answers-after e));
           beyond = back answers made x h answers-after e answers₀ s.beyond;
-          buffer = λ last d. s.buffer last (b last d);
+          buffer = s.buffer ∙ ap (buffer_after rest (call c a ws).allocator (call c a ws).words) (sym b);
         }
 
     -- one call more
@@ -73,13 +73,13 @@ module _ {all : List Call} {first : FrameAllocator} {ws₀ answers₀ held₀ : 
         answers-after ≡ take (5 * made) answers ++ answer_words called.answer ++ drop (5 * made + 5) answers →
         Along all first ws₀ answers₀ held₀ (made + 1) rest called.allocator words-after answers-after held_after
     along_next {called = called} {words-after = words-after} {held_after = held_after} m answers-after e =
-        let n = called_next called.answer m.gives.answers held_after answers-after e (λ last d. next m.buffer d) in
+        let n = called_next called.answer m.gives.answers held_after answers-after e m.buffer in
         subst (λ (l : List ℕ). Along all first ws₀ answers₀ held₀ (made + 1) rest called.allocator l answers-after held_after) (sym m.gives.words)
         (subst (λ (y : FrameAllocator). Along all first ws₀ answers₀ held₀ (made + 1) rest y (call c a ws).words answers-after held_after) (sym m.gives.records) n)
 
   -- none is left
   pub along_end : {a : FrameAllocator} {ws answers held : List ℕ} → Along all first ws₀ answers₀ held₀ made [] a ws answers held → 5 * made ≤ length answers → (end : RunEnd) → RunsCalls all first ws₀ answers₀ held₀ (ran_to a made end) ws answers held
-  unfolding record_after words_after outcomes all_answers
+  unfolding record_after words_after buffer_after outcomes all_answers
   along_end {a = a} {ws = ws} {answers = answers} {held = held} s h end =
       let written : all_answers (outcomes all first ws₀) ≡ take (5 * made) answers = s.answered ∙ append-nil (take (5 * made) answers) in
       let n : length (all_answers (outcomes all first ws₀)) ≡ 5 * made = ap length written ∙ length-take-le (5 * made) answers h in
@@ -91,7 +91,7 @@ module _ {all : List Call} {first : FrameAllocator} {ws₀ answers₀ held₀ : 
             sym (take-append-drop (5 * made) answers)
             ∙ ap (λ (l : List ℕ). take (5 * made) answers ++ l) s.beyond
             ∙ (λ i. sym written i ++ drop (sym n i) answers₀);
-        buffer = s.buffer held none;
+        buffer = sym s.buffer;
       }
 
 -- ---- demand 3, of whatever calls are made

@@ -23,7 +23,7 @@ use Rattle.run_calls.specs.declared.OpenCall.{OpenCall}
 use Rattle.std.specs.Prelude.{Option, Some, Ok}
 use Rattle.run_calls.specs.Commands.{form_call, open_call, call_in}
 use Rattle.run_calls.specs.Made.{Made, MadeOpen}
-use Rattle.run_calls.proofs.Making.{form_other, made_gives}
+use Rattle.run_calls.proofs.Making.{form_keeps, made_gives}
 use Rattle.run.specs.Runs.{record_now}
 use Rattle.model.specs.Words.{answer_words}
 use Rattle.run.proofs.Left.{decoded_at}
@@ -79,5 +79,5 @@ module _ {areas calls : List ℕ} {first : FrameAllocator} {ws₀ answers₀ hel
     unfolding call_in
     going_changed {c} e b k {called} {ws-after} g answers-after w nw na {h-after} {es-after} t ne =
         let g' : Gives (form_call areas c) (record_now test a h es) ws called ws-after = subst (λ (r : FrameAllocator). Gives (form_call areas c) r ws called ws-after) k g in
-        let m : Made (form_call areas c) (record_now test a h es) ws held called ws-after held = made_gives (form_call areas c) (record_now test a h es) ws held (form_other areas c (length held)) g' in
+        let m : Made (form_call areas c) (record_now test a h es) ws held called ws-after held = made_gives (form_call areas c) (record_now test a h es) ws held (form_keeps areas c) g' in
         apart_goes (reached_next s.reached more (Change c) d p (q ∙ ap Some e) room m answers-after w nw na refl) t ne

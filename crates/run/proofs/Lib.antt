@@ -4,3 +4,4 @@ pub mod Chunks
 pub mod Opened
 pub mod Turns
 pub mod Going
+pub mod Decided

@@ -6,8 +6,7 @@ use mathlib.Core.Bool.{true, false, ◌&&◌, true≢false, false≢true}
 use mathlib.Core.List.{List}
 use lib.ListN.{length}
 use Rattle.model.specs.Lists.{Lists}
-use Rattle.model.specs.Queries.{HeldWritten, held_runs}
-use Rattle.model.specs.Calls.{Call, held_call, answer, short_buffer}
+use Rattle.model.specs.Calls.{Call, answer, held_buffer}
 use Rattle.model.specs.Store.{is_set, load, record_of}
 use Rattle.model.specs.declared.FrameAllocator.{FrameAllocator}
 use Rattle.std.specs.Prelude.{Ok, Err}
@@ -16,11 +15,11 @@ use Rattle.model.proofs.Carried.{Stands, loads}
 use Rattle.model.proofs.Each.{same_form}
 use Rattle.model.proofs.Lasting.{answer_lawful}
 use Rattle.model.proofs.Lawful.{Lawful}
+use Rattle.model.proofs.Unchanged.{going_left}
 use Rattle.rules.specs.Check as whole
 use Rattle.rules.specs.Check.{verdict, Verdict}
 use Rattle.rules.proofs.Going.{ruled_stands, gives_does}
-use Rattle.rules.proofs.Held.{held_going}
-use Rattle.rules.proofs.Numbers.{passed_number, verdict_ruled}
+use Rattle.rules.proofs.Numbers.{accepted_call, passed_number, verdict_ruled}
 use Rattle.lists.specs.Whole.{lists_in, Ruled}
 use Rattle.lists.specs.declared.header.Header.{Header}
 use Rattle.lists.specs.declared.header.HandedBack.{HandedBack}
@@ -29,8 +28,8 @@ use Rattle.lists.specs.Open.{lent, DoesOpen}
 use Rattle.rules.proofs.OpenAs.{OpenAs, apart_as, open_ruled, open_lists, open_answers, open_words, open_after, close_can, close_is}
 use Rattle.run_calls.specs.declared.OpenCall.{OpenCall}
 use Rattle.run_calls.specs.Commands.{open_call}
-use Rattle.run_calls.specs.Made.{verdict_for, Made, LeftOpen, MadeOpen, refused, done}
-use Rattle.run_calls.proofs.Making.{goes_long, goes_on, made_refused, open_keeps, long_held}
+use Rattle.run_calls.specs.Made.{verdict_for, Made, MadeOpen, refused, done}
+use Rattle.run_calls.proofs.Making.{goes_long, goes_on, made_refused, open_keeps}
 use Rattle.run.specs.Runs.{record_now}
 
 -- a record in its form, and the lists that stand open beside it
@@ -92,10 +91,6 @@ module _ (test : Verdict) (a : FrameAllocator) (ws : List ℕ) (e : test ≡ ver
           passed_is test z a h es ∙ close_is (apart_as a ws p u) a ws u same_form_kept ∙ sym (ruled_stands a ws u).records
       go (Err r) z = refused_is test (ap is_ok z) a h es
 
-held_is : (n : ℕ) (l : Lists) → (answer (held_call n) l).answer ≡ (held_runs l).answer
-unfolding answer
-held_is n l = refl
-
 -- a call on what stands open is the call on the record
 module _ (c : OpenCall) (test : Verdict) (a : FrameAllocator) (h : Header) (es ws before : List ℕ) (tested : test ≡ verdict (record_now test a h es) ws) (stands : test ≡ Ok tt → Standing a h es ws) where
   abbrev it : Call
@@ -117,7 +112,7 @@ module _ (c : OpenCall) (test : Verdict) (a : FrameAllocator) (h : Header) (es w
   made_standing (refused r q e) z = subst (λ (y : Header). Standing a y es ws) (sym (ap (λ (y : HandedBack). y.header) e)) (stands z)
   made_standing (done y x left) z = done_standing y x
 
-  done_made : (z : verdict_for it test ≡ Ok tt) {d : HandedBack} {es-after ws-after after : List ℕ} → DoesOpen (answer it) h es ws d es-after ws-after → LeftOpen it (lists_in h (lent h.sorted es ws)) d.answer.count before after
+  done_made : (z : verdict_for it test ≡ Ok tt) {d : HandedBack} {es-after ws-after after : List ℕ} → DoesOpen (answer it) h es ws d es-after ws-after → after ≡ held_buffer it (lists_in h (lent h.sorted es ws)) before
       → Made it (closed a h es) ws before (record { answer = d.answer; allocator = closed a d.header es-after }) ws-after after
   done_made z {d} {es-after} {ws-after} {after} x left =
       let s = stands (goes_on it test z) in
@@ -133,12 +128,9 @@ module _ (c : OpenCall) (test : Verdict) (a : FrameAllocator) (h : Header) (es w
               records = close_is (open_after s.opens (answer it) keeps form x) a s.before s.ruled (s.form ∙ sym form);
               words = open_words s.opens (answer it) keeps form x;
             }));
-        buffer = record {
-          listed = λ e. (held_going (closed a h es) ws y before (long_held (length before) (ap short_buffer (sym e) ∙ goes_long it test z)) {x = d.answer} {after = after}
-              (open_answers s.opens (answer it) keeps form x ∙ (λ i. (answer (e i) l).answer) ∙ held_is (length before) l ∙ ap (λ (m : Lists). (held_runs m).answer) (sym same))
-              (subst (λ (m : Lists). HeldWritten m d.answer.count before after) (open_lists s.opens ∙ sym same) (left.listed e))).buffer;
-          kept = left.kept;
-        };
+        buffer =
+            left ∙ ap (λ (m : Lists). held_buffer it m before) (open_lists s.opens ∙ sym same)
+            ∙ sym (going_left it (closed a h es) ws before (accepted_call it (closed a h es) ws (goes_long it test z) y));
       }
 
   pub made_record : {d : HandedBack} {es-after ws-after after : List ℕ} → MadeOpen it test h es ws before d es-after ws-after after

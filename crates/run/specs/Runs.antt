@@ -2,7 +2,7 @@
 use Rattle.std.specs.Prelude.{ℕ, zero, suc, ◌/◌, ◌≡◌, true, List, [], ◌∷◌, ◌++◌, length, take, drop}
 use Rattle.model.specs.Boot.{Extent}
 use Rattle.model.specs.Calls.{Call, Outcome, call, fresh_record}
-use Rattle.model.specs.History.{outcomes, record_after, words_after, is_general, Boots, Holds}
+use Rattle.model.specs.History.{outcomes, record_after, words_after, buffer_after, is_general, Boots, Holds}
 use Rattle.model.specs.Words.{answer_words}
 use Rattle.model.specs.declared.FrameAllocator.{FrameAllocator}
 use Rattle.boot_areas.specs.Areas.{triples}
@@ -10,7 +10,6 @@ use Rattle.lists.specs.declared.header.Header.{Header}
 use Rattle.lists.specs.Packed.{closed}
 use Rattle.rules.specs.Check.{Verdict}
 use Rattle.run_calls.specs.Commands.{decoded, call_in}
-use Rattle.run_calls.specs.Made.{Left}
 use Rattle.run_calls.specs.declared.RunCall.{RunCall}
 use Rattle.std.specs.Prelude.{Option, Some, None, Ok, Err}
 use Rattle.run.specs.declared.Ending.{Ending}
@@ -61,12 +60,6 @@ unfoldable pub all_answers : List Outcome → List ℕ
 all_answers [] = []
 all_answers (o ∷ os) = answer_words o.answer ++ all_answers os
 
--- the held list's buffer, from call to call
-pub data Buffers : List Call → FrameAllocator → List ℕ → List ℕ → List ℕ → Type 0 where
-  none : {a : FrameAllocator} {ws before : List ℕ} → Buffers [] a ws before before
-  next : {c : Call} {cs : List Call} {a : FrameAllocator} {ws before between after : List ℕ} →
-      Left c a ws before between → Buffers cs (call c a ws).allocator (call c a ws).words between after → Buffers (c ∷ cs) a ws before after
-
 -- "Each gets record and workspace as the call before left them"
 pub record RunsCalls (cs : List Call) (a : FrameAllocator) (ws answers held : List ℕ) (r : Ran) (words-after answers-after held_after : List ℕ) : Type 0 where
   pub made : r.ending.made ≡ length cs
@@ -74,7 +67,7 @@ pub record RunsCalls (cs : List Call) (a : FrameAllocator) (ws answers held : Li
   pub words : words-after ≡ words_after cs a ws
   -- "Then each is answered as 2's definitions say"; the words after the last answer are as they were
   pub answered : answers-after ≡ all_answers (outcomes cs a ws) ++ drop (length (all_answers (outcomes cs a ws))) answers
-  pub buffer : Buffers cs a ws held held_after
+  pub buffer : held_after ≡ buffer_after cs a ws held
 
 -- "Let a fresh record's first call be a boot that is accepted and makes at least one frame general. Take any list of further calls on
 -- that record, refused ones included"

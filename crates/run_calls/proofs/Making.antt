@@ -11,8 +11,8 @@ use Rattle.memory_structs.specs.Range.{above_top}
 use Rattle.memory_structs.proofs.Bools.{if_cases}
 use Rattle.model.specs.Lists.{Lists}
 use Rattle.model.specs.Requests.{Result, refused, counted}
-use Rattle.model.specs.Queries.{kind_of, total, held_runs, HeldWritten}
-use Rattle.model.specs.Calls.{Call, held_call, total_call, kind_call, return_call, sort_call, Outcome, answer, short_buffer, unchanged, call, Gives}
+use Rattle.model.specs.Queries.{kind_of, total, held_runs}
+use Rattle.model.specs.Calls.{Call, held_call, total_call, kind_call, return_call, sort_call, Outcome, answer, short_buffer, unchanged, call, Gives, held_buffer}
 use Rattle.model.specs.declared.Answer.{Answer}
 use Rattle.model.specs.declared.Called.{Called}
 use Rattle.model.specs.declared.Kind.{Kind}
@@ -23,6 +23,7 @@ use Rattle.model.specs.declared.refusals.Refusal.TheVariants.{TooFewWords}
 use Rattle.model.specs.Refusals.{number}
 use Rattle.memory_structs.specs.declared.range.FrameRange.{FrameRange}
 use Rattle.model.proofs.Each.{changes_form}
+use Rattle.model.proofs.Unchanged.{refused_left, kept_left}
 use Rattle.rules.specs.Check.{verdict, Verdict, refused_with}
 use Rattle.rules.proofs.Numbers.{short_call, gives_refused}
 use Rattle.rules.proofs.Refusals.{numbered, answers_number}
@@ -44,7 +45,7 @@ use Rattle.run_calls.specs.declared.FormCall.TheVariants.{Boot, Sort}
 use Rattle.run_calls.specs.declared.OpenCall.{OpenCall}
 use Rattle.run_calls.specs.declared.OpenCall.TheVariants.{Allocate, Return, KindOf, FreeTotal, HeldList}
 use Rattle.run_calls.specs.Commands.{are_listed, AreasListed, areas_at, form_call, open_call}
-use Rattle.run_calls.specs.Made.{verdict_for, Made, LeftOpen, MadeOpen, done}
+use Rattle.run_calls.specs.Made.{verdict_for, Made, MadeOpen, done}
 
 -- ---- a boot's areas: the part of the list from one word to another
 
@@ -63,11 +64,11 @@ areas_part first count areas =
     let e : 3 * first + 3 * count - 3 * first ≡ 3 * count = omega arith in
     ap (λ (n : ℕ). take n (drop (3 * first) areas)) e
 
-pub form_other : (areas : List ℕ) (c : FormCall) (n : ℕ) → form_call areas c ≡ held_call n → ⊥
-unfolding form_call boot_call_of
-form_other areas (Boot unit.Frames first count) n e = let w : ◌≡◌ {A = ℕ} 0 1 = cc in omega arith
-form_other areas (Boot unit.Bytes first count) n e = let w : ◌≡◌ {A = ℕ} 0 1 = cc in omega arith
-form_other areas Sort n e = let w : ◌≡◌ {A = ℕ} 0 1 = cc in omega arith
+pub form_keeps : (areas : List ℕ) (c : FormCall) (l : Lists) (buffer : List ℕ) → held_buffer (form_call areas c) l buffer ≡ buffer
+unfolding form_call boot_call_of held_buffer
+form_keeps areas (Boot unit.Frames first count) l buffer = refl
+form_keeps areas (Boot unit.Bytes first count) l buffer = refl
+form_keeps areas Sort l buffer = refl
 
 -- ---- the verdict that decides
 
@@ -133,18 +134,11 @@ module _ (c : Call) (a : FrameAllocator) (ws before : List ℕ) where
       let same : (call c a ws).answer.number ≡ number r = sym (ap (λ (x : Answer). x.number) g.answers) ∙ answers_number r in
       record {
         gives = subst (λ (x : Called). Gives c a ws x ws) (sym e) g;
-        buffer = record {
-          listed = λ h. record {
-            accepted = λ z. absurd (numbered r (sym same ∙ ap (λ (d : Call). (call d a ws).answer.number) h ∙ z));
-            otherwise = λ z. refl;
-          };
-          kept = λ h. refl;
-        };
+        buffer = sym (refused_left c a ws before (λ z. numbered r (sym same ∙ z)));
       }
 
-  module _ (other : c ≡ held_call (length before) → ⊥) where
-    pub made_gives : {called : Called} {after : List ℕ} → Gives c a ws called after → Made c a ws before called after before
-    made_gives g = record { gives = g; buffer = record { listed = λ h. absurd (other h); kept = λ h. refl } }
+  pub made_gives : ((l : Lists) (buffer : List ℕ) → held_buffer c l buffer ≡ buffer) → {called : Called} {after : List ℕ} → Gives c a ws called after → Made c a ws before called after before
+  made_gives keeps g = record { gives = g; buffer = sym (kept_left c keeps a ws before) }
 
 -- ---- a call on an allocator that stands open
 
@@ -152,16 +146,14 @@ pub made_as : {tested : Verdict} {h : Header} {es ws before : List ℕ} {d : Han
     MadeOpen (open_call n known) tested h es ws before d es-after ws-after after → MadeOpen (open_call n c) tested h es ws before d es-after ws-after after
 made_as {tested} {h} {es} {ws} {before} {d} {es-after} {ws-after} {after} n e m = subst (λ (x : OpenCall). MadeOpen (open_call n x) tested h es ws before d es-after ws-after after) (sym e) m
 
--- no request and no return is a held list
-pub request_other : (r : Request) (n : ℕ) → asked.call_of r ≡ held_call n → ⊥
-request_other (Frames m) n e = let w : ◌≡◌ {A = ℕ} 0 1 = cc in omega arith
-request_other (Bytes b) n e = let w : ◌≡◌ {A = ℕ} 0 1 = cc in omega arith
-request_other (FramesAt f m) n e = let w : ◌≡◌ {A = ℕ} 0 1 = cc in omega arith
-request_other (BytesAt x b) n e = let w : ◌≡◌ {A = ℕ} 0 1 = cc in omega arith
-request_other (GeneralFramesAt f m) n e = let w : ◌≡◌ {A = ℕ} 0 1 = cc in omega arith
-
-pub kept_open : (c : Call) (l : Lists) (count : ℕ) (before : List ℕ) → (c ≡ held_call (length before) → ⊥) → LeftOpen c l count before before
-kept_open c l count before other = record { listed = λ e. absurd (other e); kept = λ e. refl }
+-- no request writes to the held list's buffer
+request_keeps : (r : Request) (l : Lists) (buffer : List ℕ) → held_buffer (asked.call_of r) l buffer ≡ buffer
+unfolding held_buffer
+request_keeps (Frames m) l buffer = refl
+request_keeps (Bytes b) l buffer = refl
+request_keeps (FramesAt f m) l buffer = refl
+request_keeps (BytesAt x b) l buffer = refl
+request_keeps (GeneralFramesAt f m) l buffer = refl
 
 -- a question leaves the lists
 pub kind_keeps : (r : FrameRange) (l : Lists) → (answer (kind_call r) l).lists ≡ l
@@ -188,7 +180,7 @@ asks_open c h es ws u same {x} e {d} p = record {
   kept = refl;
 }
 
-pub long_held : (n : ℕ) → short_buffer (held_call n) ≡ false → 2048 ≤ n
+long_held : (n : ℕ) → short_buffer (held_call n) ≡ false → 2048 ≤ n
 unfolding short_buffer
 long_held n e = ltb-false n 2048 e
 
@@ -235,25 +227,22 @@ module _ (c : OpenCall) (tested : Verdict) (before : List ℕ) {v : Verdict} (is
   module _ {h : Header} {es ws : List ℕ} {d : HandedBack} where
     pub request_made : {r : Request} {es-after ws-after : List ℕ} → c ≡ Allocate r → DoesOpen (answer (asked.call_of r)) h es ws d es-after ws-after → MadeOpen (open_call (length before) c) tested h es ws before d es-after ws-after before
     unfolding open_call
-    request_made {r} e x = made_as (length before) e (done (known_verdict e) x (kept_open _ _ _ before (request_other r (length before))))
+    request_made {r} e x = made_as (length before) e (done (known_verdict e) x (sym (request_keeps r _ before)))
 
     pub return_made : {r : FrameRange} {es-after ws-after : List ℕ} → c ≡ Return r → DoesOpen (answer (return_call r)) h es ws d es-after ws-after → MadeOpen (open_call (length before) c) tested h es ws before d es-after ws-after before
-    unfolding open_call
-    return_made e x = made_as (length before) e (done (known_verdict e) x (kept_open _ _ _ before (λ q. let w : ◌≡◌ {A = ℕ} 0 1 = cc in omega arith)))
+    unfolding open_call held_buffer
+    return_made e x = made_as (length before) e (done (known_verdict e) x refl)
 
     module _ (keeps : tested ≡ Ok tt → Ruled h (lent h.sorted es ws)) {x : Answer} (p : d ≡ whole.handed_with x h) where
       pub kind_made : {r : FrameRange} → c ≡ KindOf r → x ≡ (kind_of r (lists_in h (lent h.sorted es ws))).answer → MadeOpen (open_call (length before) c) tested h es ws before d es ws before
-      unfolding open_call answer
-      kind_made {r} e k = made_as (length before) e (done (known_verdict e) (asks_open (kind_call r) h es ws (goes_ruled es ws keeps) (kind_keeps r _) k p) (kept_open _ _ _ before (λ q. let w : ◌≡◌ {A = ℕ} 0 1 = cc in omega arith)))
+      unfolding open_call answer held_buffer
+      kind_made {r} e k = made_as (length before) e (done (known_verdict e) (asks_open (kind_call r) h es ws (goes_ruled es ws keeps) (kind_keeps r _) k p) refl)
 
       pub total_made : {k : Kind} → c ≡ FreeTotal k → x ≡ (total k (lists_in h (lent h.sorted es ws))).answer → MadeOpen (open_call (length before) c) tested h es ws before d es ws before
-      unfolding open_call answer
-      total_made {k} e q = made_as (length before) e (done (known_verdict e) (asks_open (total_call k) h es ws (goes_ruled es ws keeps) (total_keeps k _) q p) (kept_open _ _ _ before (λ q. let w : ◌≡◌ {A = ℕ} 0 1 = cc in omega arith)))
+      unfolding open_call answer held_buffer
+      total_made {k} e q = made_as (length before) e (done (known_verdict e) (asks_open (total_call k) h es ws (goes_ruled es ws keeps) (total_keeps k _) q p) refl)
 
       pub held_made : {after : List ℕ} → c ≡ HeldList → query.Listed (lists_in h (lent h.sorted es ws)) before x after → MadeOpen (open_call (length before) c) tested h es ws before d es ws after
-      unfolding open_call answer
+      unfolding open_call answer held_buffer
       held_made {after} e t =
-          made_as (length before) e (done (known_verdict e) (asks_open (held_call (length before)) h es ws (goes_ruled es ws keeps) (held_keeps (length before) _) t.answers p) (record {
-            listed = λ q. subst (λ (m : ℕ). HeldWritten (lists_in h (lent h.sorted es ws)) m before after) (sym (ap (λ (y : HandedBack). y.answer.count) p)) t.written;
-            kept = λ q. absurd (q refl);
-          }))
+          made_as (length before) e (done (known_verdict e) (asks_open (held_call (length before)) h es ws (goes_ruled es ws keeps) (held_keeps (length before) _) t.answers p) t.buffer)

@@ -5,8 +5,8 @@ use Rattle.query_core.proofs.held_list.Goals as goal
 
 pub returns-then-lists : goal.returns-then-lists
 returns-then-lists c = let l = c.args.lists in
-    is_listed l.header l.entries.now l.ruled (sorted_written l.header l.entries.now (c.table.ensures.list ∙ c.list-regions.ensures.list) (c.table-then-lists.ensures.list ∙ c.list-chunks.ensures.list) c.write_runs-count.ensures) c.counted.ensures
+    is_listed (sorted_written l.header l.entries.now (c.table.ensures.list ∙ c.list-regions.ensures.list) (c.table-then-lists.ensures.list ∙ c.list-chunks.ensures.list) c.write_runs-count.ensures) c.counted.ensures
 
 pub returns : goal.returns
 returns c = let l = c.args.lists in
-    is_listed l.header l.entries.now l.ruled (early_written l.header l.entries.now l.ruled c.if-lists.false (c.slots.ensures.list ∙ c.list-regions.ensures.list) (c.slots-2.ensures.list ∙ c.list-chunks.ensures.list) c.write_from_pairs-runs.ensures) c.counted-2.ensures
+    is_listed (early_written l.header l.entries.now l.ruled c.if-lists.false (c.slots.ensures.list ∙ c.list-regions.ensures.list) (c.slots-2.ensures.list ∙ c.list-chunks.ensures.list) c.write_from_pairs-runs.ensures) c.counted-2.ensures

@@ -46,19 +46,10 @@ pub fn answer(call: &Call, stored: &mut Stored) -> Answer {
             Call::Total(reserved) => likhmout_free_total(a, words_read, len, reserved.into()),
             Call::Held(size) => {
                 *buffer = vec![UNREAD[0]; size];
-                let answer = likhmout_held_list(a, words_read, len, buffer.as_mut_ptr(), size);
-                sort_runs(buffer, answer.count);
-                answer
+                likhmout_held_list(a, words_read, len, buffer.as_mut_ptr(), size)
             }
         }
     }
-}
-
-/// Document 01 leaves the order of the runs open.
-pub fn sort_runs(buffer: &mut [u64], runs: u64) {
-    let (pairs, _) = buffer.as_chunks_mut::<2>();
-    let runs = pairs.len().min(runs as usize);
-    pairs[..runs].sort();
 }
 
 /// Boots with words that are only read.

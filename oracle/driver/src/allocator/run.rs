@@ -2,7 +2,7 @@
 
 use super::area::{Boot, Unit};
 use super::call::Call;
-use super::ours::{encoded, sort_runs};
+use super::ours::encoded;
 use super::record::{Answer, FrameAllocator, Stored, UNREAD};
 use crate::frames::Range;
 
@@ -22,8 +22,8 @@ extern "C" {
 /// An answer is so many words.
 const ANSWER: usize = 5;
 
-/// Makes the calls, of which only the last may be a held list, and leaves its runs ascending. True if each
-/// answer is the one that is expected, and nothing is written after the last.
+/// Makes the calls, of which only the last may be a held list. True if each answer is the one that is
+/// expected, and nothing is written after the last.
 pub fn run(calls: &[Call], expected: &[Answer], stored: &mut Stored) -> bool {
     let mut areas = Vec::new();
     let words: Vec<u64> = calls.iter().flat_map(|call| three_words(call, &mut areas)).collect();
@@ -36,7 +36,6 @@ pub fn run(calls: &[Call], expected: &[Answer], stored: &mut Stored) -> bool {
     let counts = unsafe {
         likhmout_run(allocator, lent.as_mut_ptr(), lent.len(), words.as_ptr(), words.len(), areas.as_ptr(), areas.len(), answers.as_mut_ptr(), answers.len(), buffer.as_mut_ptr(), held)
     };
-    sort_runs(buffer, expected.last().map_or(0, |answer| answer.count));
     let mut words: Vec<u64> = expected.iter().flat_map(five_words).collect();
     words.extend([UNREAD[0]; 2]);
     counts == Counts { made: calls.len(), end: 0 } && answers == words

@@ -45,12 +45,17 @@ fn of_held(state: &State) -> Vec<Row> {
     let is_across = |run: &Range| {
         !regions.iter().any(|region| region.end >= run.end && region.start <= run.start)
     };
+    // The stored place of the region that a run begins in.
+    let place = |run: &Range| {
+        regions.iter().position(|region| region.start <= run.start && run.start <= region.end)
+    };
     let seen = [
         (Row::HeldNone, runs.is_empty()),
         (Row::HeldOne, runs.len() == 1),
         (Row::HeldSeveral, (2..=32).contains(&runs.len())),
         (Row::HeldMany, runs.len() > 32),
         (Row::HeldAcross, runs.iter().any(is_across)),
+        (Row::HeldUnlikeSlots, !runs.is_sorted_by_key(place)),
     ];
     those_seen(&seen)
 }

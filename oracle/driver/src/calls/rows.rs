@@ -65,6 +65,7 @@ pub enum Row {
     HeldSeveral,
     HeldMany,
     HeldAcross,
+    HeldUnlikeSlots,
 }
 
 /// In which form a row can occur.
@@ -76,7 +77,7 @@ enum Form {
 }
 
 impl Row {
-    pub const ALL: [Row; 54] = [
+    pub const ALL: [Row; 55] = [
         Row::FromGeneral,
         Row::FromReserved,
         Row::TwoGeneral,
@@ -131,6 +132,7 @@ impl Row {
         Row::HeldSeveral,
         Row::HeldMany,
         Row::HeldAcross,
+        Row::HeldUnlikeSlots,
     ];
 
     pub fn label(self) -> &'static str {
@@ -212,6 +214,7 @@ impl Row {
             Row::HeldSeveral => ("held, 2 to 32 runs", Form::Both),
             Row::HeldMany => ("held, more than 32 runs", Form::Both),
             Row::HeldAcross => ("    a run across regions that touch", Form::Both),
+            Row::HeldUnlikeSlots => ("    runs in another order than the slots", Form::Early),
         }
     }
 
