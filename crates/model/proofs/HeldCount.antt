@@ -1,23 +1,23 @@
 -- The held list has 1,024 runs at most: each begins where a general region starts or just above a free chunk. So 2,048 words are enough.
 use Prim.Native.Nat.{ℕ, zero, suc, ◌+◌, ◌*◌, ◌≤◌, ◌<◌}
 use native.Mathlib.Omega.{arith}
-use mathlib.Core.Path.{◌≡◌, refl, ap, ◌∙◌}
-use mathlib.Core.Bool.{Bool, true, false, not, ◌&&◌, ◌||◌}
+use mathlib.Core.Path.{◌≡◌, refl, ap}
+use mathlib.Core.Bool.{Bool, true, false, not, ◌&&◌}
 use mathlib.Core.List.{List, [], ◌∷◌, ◌++◌}
 use lib.ListN.{length, drop, length-append, length-drop}
 use lib.Dec.{eqb}
 use borrow.Author.Tests.{eqb-true, eqb-false, eq-eqb}
 use Rattle.std.specs.Prelude.{if◌then◌else◌}
-use Rattle.memory_structs.specs.Range.{covers}
 use Rattle.memory_structs.specs.declared.range.FrameRange.{FrameRange}
 use Rattle.memory_structs.proofs.Cover.{cov, cov_in, cov_below, cov_above, cov_cases, covers_between}
-use Rattle.model.specs.Lists.{Lists, Slot, unused, used, entries, any_of, bound, times}
+use Rattle.model.specs.Lists.{Lists, Slot, unused, used, entries, covered_by, bound, times}
 use Rattle.model.specs.Rules.{Each, rules}
 use Rattle.model.specs.Queries.{is_held, held_list, Run, MaximalRuns, pairs, written}
-use Rattle.model.proofs.Cover.{tally, times_tally}
+use Rattle.model.proofs.Cover.{tally}
 use Rattle.model.proofs.Held.{held_list_is}
 use Rattle.model.proofs.Lawful.{AllSound, Lawful}
 use Rattle.model.proofs.Parted.{times_cons}
+use Rattle.model.proofs.Plainly.{covered_tally, uncovered_tally}
 use Rattle.model.proofs.Ruled.{rules_lawful}
 use Rattle.model.proofs.Trace.{bit}
 
@@ -36,21 +36,6 @@ starts f r = eqb r.start f
 
 abbrev ends : ℕ → FrameRange → Bool
 ends f r = eqb (r.end + 1) f
-
-times_many : (f : ℕ) (rs : List FrameRange) → how_many (λ r. covers r f) rs ≡ times f rs
-unfolding how_many times
-times_many f [] = refl
-times_many f (r ∷ rs) = ap (λ n. bit (covers r f) + n) (times_many f rs)
-
--- where at most one passes, whether one does is how many do
-any_bit : (p : FrameRange → Bool) (rs : List FrameRange) → how_many p rs ≤ 1 → bit (any_of p rs) ≡ how_many p rs
-unfolding how_many any_of
-any_bit p [] h = refl
-any_bit p (r ∷ rs) h = go (p r) h (any_bit p rs)
-  where
-    go : (b : Bool) → bit b + how_many p rs ≤ 1 → (how_many p rs ≤ 1 → bit (any_of p rs) ≡ how_many p rs) → bit (b || any_of p rs) ≡ bit b + how_many p rs
-    go true h ih = omega arith
-    go false h ih = omega (arith, ih (omega arith))
 
 -- from a frame to the next: what no longer covers it has ended, and what newly does has started
 turn_one : (r : FrameRange) (f : ℕ) → r.start ≤ r.end → cov r (suc f) + bit (ends (suc f) r) ≡ cov r f + bit (starts (suc f) r)
@@ -163,19 +148,12 @@ module _ {l : Lists} (a : Lawful l) where
   -- a general frame is free or held
   pub held_bit : (f : ℕ) → bit (is_held l f) + tally f l.general_free ≡ tally f l.general_regions
   unfolding is_held
-  held_bit f = go (any_of (λ r. covers r f) (entries l.general_regions)) (any_of (λ r. covers r f) (entries l.general_free))
-      (one l.general_regions (omega (arith, a.apart f))) (one l.general_free (omega (arith, a.apart f, a.general f)))
+  held_bit f = go (covered_by f (entries l.general_regions)) (covered_by f (entries l.general_free)) refl refl
     where
-      one : (s : List Slot) → tally f s ≤ 1 → bit (any_of (λ r. covers r f) (entries s)) ≡ tally f s
-      one s h =
-          let e : how_many (λ r. covers r f) (entries s) ≡ tally f s = times_many f (entries s) ∙ times_tally f s in
-          any_bit (λ r. covers r f) (entries s) (omega arith) ∙ e
-
-      go : (x y : Bool) → bit x ≡ tally f l.general_regions → bit y ≡ tally f l.general_free → bit (x && not y) + tally f l.general_free ≡ tally f l.general_regions
-      go true true p q = omega arith
-      go true false p q = omega arith
-      go false true p q = omega (arith, a.general f)
-      go false false p q = omega arith
+      go : (x y : Bool) → covered_by f (entries l.general_regions) ≡ x → covered_by f (entries l.general_free) ≡ y → bit (x && not y) + tally f l.general_free ≡ tally f l.general_regions
+      go true true p q = omega (arith, a.apart f, a.general f, covered_tally f l.general_regions p, covered_tally f l.general_free q)
+      go true false p q = omega (arith, a.apart f, covered_tally f l.general_regions p, uncovered_tally f l.general_free q)
+      go false y p q = omega (arith, a.general f, uncovered_tally f l.general_regions p)
 
   -- a region starts at the frame, or a free chunk ends just below it
   abbrev AtEdge : ℕ → Type 0
@@ -239,7 +217,7 @@ few l a h =
 pub few_held : (l : Lists) → rules l ≡ true → length (held_list l) ≤ 1024
 few_held l r = few l (rules_lawful l r) (held_list_is l r)
 
-pairs_length : (rs : List FrameRange) → length (pairs rs) ≡ 2 * length rs
+pub pairs_length : (rs : List FrameRange) → length (pairs rs) ≡ 2 * length rs
 unfolding pairs
 pairs_length [] = refl
 pairs_length (r ∷ rs) = omega (arith, pairs_length rs)

@@ -14,7 +14,8 @@ use Rattle.memory_structs.specs.Range.{range}
 use Rattle.memory_structs.specs.declared.range.FrameRange.{FrameRange}
 use Rattle.model.specs.Queries.{pairs, written}
 use Rattle.query_held.specs.Runs.{touches, put_count, put_words}
-use Rattle.query_held.proofs.Stack.{join_run, put_run, up}
+use Rattle.model.proofs.HeldCount.{pairs_length}
+use Rattle.query_held.proofs.Stack.{join_run, put_run, up, length_up}
 
 pairs_snoc : (rs : List FrameRange) (r : FrameRange) → pairs (rs ++ r ∷ []) ≡ pairs rs ++ r.start ∷ r.end ∷ []
 unfolding pairs
@@ -30,9 +31,7 @@ unfolding up
 words_cons r rs = pairs_snoc (up rs) r
 
 words_length : (rs : List FrameRange) → length (words rs) ≡ 2 * length rs
-unfolding up pairs
-words_length [] = refl
-words_length (r ∷ rs) = omega (arith, ap length (words_cons r rs), length-append (words rs) (r.start ∷ r.end ∷ []), words_length rs)
+words_length rs = omega (arith, pairs_length (up rs), length_up rs)
 
 -- a buffer that held `base` before
 unfoldable pub stacked : List FrameRange → List ℕ → List ℕ

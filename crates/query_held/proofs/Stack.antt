@@ -4,6 +4,7 @@ use native.Mathlib.Omega.{arith}
 use mathlib.Core.Path.{◌≡◌, refl, sym, ap, subst, ◌∙◌}
 use mathlib.Core.Bool.{Bool, true, false}
 use mathlib.Core.List.{List, [], ◌∷◌, ◌++◌, append_assoc, append-nil}
+use lib.ListN.{length, length-append}
 use lib.Dec.{leb, ltb, eqb}
 use borrow.Author.Tests.{leb-true, leb-false, ltb-true, ltb-false, eqb-true, eqb-false}
 use Rattle.std.specs.Prelude.{if◌then◌else◌}
@@ -124,6 +125,11 @@ module _ (H : ℕ → Bool) where
 unfoldable pub up : List FrameRange → List FrameRange
 up [] = []
 up (r ∷ rs) = up rs ++ r ∷ []
+
+pub length_up : (rs : List FrameRange) → length (up rs) ≡ length rs
+unfolding up
+length_up [] = refl
+length_up (r ∷ rs) = omega (arith, length-append (up rs) (r ∷ []), length_up rs)
 
 times_append : (f : ℕ) (rs qs : List FrameRange) → times f (rs ++ qs) ≡ times f rs + times f qs
 unfolding times

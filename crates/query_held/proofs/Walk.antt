@@ -2,51 +2,31 @@
 use Prim.Native.Nat.{ℕ, ◌+◌, ◌-◌, ◌*◌, ◌≤◌, ◌<◌, max}
 use native.Mathlib.Omega.{arith}
 use mathlib.Core.Path.{◌≡◌, refl, sym, ap, subst, ◌∙◌}
-use mathlib.Core.Bool.{Bool, true, false, not, ◌&&◌, ◌||◌}
+use mathlib.Core.Bool.{Bool, true, false, not, ◌&&◌}
 use mathlib.Core.List.{List, [], ◌∷◌}
-use lib.ListN.{length, drop, length-append}
+use lib.ListN.{length, drop}
 use lib.Dec.{leb, ltb, eqb}
 use borrow.Author.Tests.{ltb-true, ltb-false}
 use Rattle.std.specs.Prelude.{if◌then◌else◌, Some}
 use Rattle.memory_structs.specs.Range.{range, covers}
 use Rattle.memory_structs.specs.declared.range.FrameRange.{FrameRange}
-use Rattle.memory_structs.proofs.Cover.{cov, cov_in, cov_below, cov_above, covers_bit}
-use Rattle.model.specs.Lists.{Lists, Slot, unused, used, entries, any_of}
+use Rattle.memory_structs.proofs.Cover.{cov, cov_in, cov_below, cov_above}
+use Rattle.model.specs.Lists.{Lists, Slot, used, entries, any_of}
 use Rattle.model.specs.Rules.{tidy}
 use Rattle.model.specs.Store.{table_slots}
 use Rattle.model.specs.Queries.{is_held, held_list, pairs, written}
 use Rattle.model.proofs.Cover.{tally}
+use Rattle.model.proofs.Plainly.{covered_some, covered_none}
 use Rattle.model.proofs.Ruled.{tidy_is}
-use Rattle.model.proofs.Trace.{bit}
 use Rattle.tables.proofs.Search.{pair_at, slots_cons}
 use Rattle.tables.proofs.Spaced.{Spaced, tidy_spaced, spaced_lower, none_under}
 use Rattle.tables.proofs.Sums.{tidy_few}
 use Rattle.query_held.specs.Runs.{two_tables, HeldWritten, next_start, put_count, put_words}
-use Rattle.query_held.proofs.Stack.{Upto, upto_none, join_run, put_run, upto_put, up, upto_held}
+use Rattle.query_held.proofs.Stack.{Upto, upto_none, join_run, put_run, upto_put, up, length_up, upto_held}
 use Rattle.query_held.proofs.Put.{stacked, stacked_length, put_words_holds, put_count_holds}
 use Rattle.query_held.proofs.Steps.{a_chunk, is_chunk}
 
 -- ---- held frames by tallies
-
-covered_none : (f : ℕ) (s : List Slot) → tally f s ≡ 0 → any_of (λ r. covers r f) (entries s) ≡ false
-unfolding tally entries any_of
-covered_none f [] e = refl
-covered_none f (unused ∷ s) e = covered_none f s e
-covered_none f (used r ∷ s) e = go (covers r f) refl (λ h. covered_none f s h)
-  where
-    go : (b : Bool) → covers r f ≡ b → (tally f s ≡ 0 → any_of (λ r. covers r f) (entries s) ≡ false) → (b || any_of (λ r. covers r f) (entries s)) ≡ false
-    go true t ih = absurd (omega (arith, covers_bit r f, ap bit t))
-    go false t ih = ih (omega arith)
-
-covered_some : (f : ℕ) (s : List Slot) → 0 < tally f s → any_of (λ r. covers r f) (entries s) ≡ true
-unfolding tally entries any_of
-covered_some f [] e = absurd (omega arith)
-covered_some f (unused ∷ s) e = covered_some f s e
-covered_some f (used r ∷ s) e = go (covers r f) refl (λ h. covered_some f s h)
-  where
-    go : (b : Bool) → covers r f ≡ b → (0 < tally f s → any_of (λ r. covers r f) (entries s) ≡ true) → (b || any_of (λ r. covers r f) (entries s)) ≡ true
-    go true t ih = refl
-    go false t ih = ih (omega (arith, covers_bit r f, ap bit t))
 
 module _ (gr gf : List Slot) (f : ℕ) where
   held_yes : 0 < tally f gr → tally f gf ≡ 0 → is_held (two_tables gr gf) f ≡ true
@@ -137,11 +117,6 @@ pub record Walked (m : ℕ) (us : List ℕ) (n : ℕ) (ws base now : List ℕ) (
   pub room : k ≤ i + j
   pub upto : Upto (is_held (two_tables (table_slots m us) (table_slots n ws))) from stack
   pub words : now ≡ stacked stack base
-
-length_up : (rs : List FrameRange) → length (up rs) ≡ length rs
-unfolding up
-length_up [] = refl
-length_up (r ∷ rs) = omega (arith, length-append (up rs) (r ∷ []), length_up rs)
 
 put_few : (s e : ℕ) (rs : List FrameRange) → length (put_run s e rs) ≤ length rs + 1
 unfolding put_run join_run

@@ -24,10 +24,10 @@ abbrev pub decoded_in : (areas calls : List ℕ) → List (Option RunCall)
 decoded_in areas calls = triples (decoded (length areas)) calls
 
 -- up to the first that is damaged
-unfoldable pub calls_in : (areas : List ℕ) (buffer : ℕ) → List (Option RunCall) → List Call
-calls_in areas buffer [] = []
-calls_in areas buffer (Some c ∷ ds) = call_in areas buffer c ∷ calls_in areas buffer ds
-calls_in areas buffer (None ∷ ds) = []
+unfoldable pub calls_in : (areas : List ℕ) (held_len : ℕ) → List (Option RunCall) → List Call
+calls_in areas held_len [] = []
+calls_in areas held_len (Some c ∷ ds) = call_in areas held_len c ∷ calls_in areas held_len ds
+calls_in areas held_len (None ∷ ds) = []
 
 -- and as many as there is room for, five words to an answer
 abbrev pub calls_made : (areas calls answers held : List ℕ) → List Call

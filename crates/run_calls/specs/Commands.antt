@@ -48,16 +48,16 @@ unfoldable pub form_call : (areas : List ℕ) → FormCall → Call
 form_call areas (Boot u first count) = boot_call_of u (areas_at first count areas)
 form_call areas Sort = sort_call
 
-unfoldable pub open_call : (buffer : ℕ) → OpenCall → Call
-open_call buffer (Allocate r) = asked.call_of r
-open_call buffer (Return r) = return_call r
-open_call buffer (KindOf r) = kind_call r
-open_call buffer (FreeTotal k) = total_call k
-open_call buffer HeldList = held_call buffer
+unfoldable pub open_call : (held_len : ℕ) → OpenCall → Call
+open_call held_len (Allocate r) = asked.call_of r
+open_call held_len (Return r) = return_call r
+open_call held_len (KindOf r) = kind_call r
+open_call held_len (FreeTotal k) = total_call k
+open_call held_len HeldList = held_call held_len
 
-unfoldable pub call_in : (areas : List ℕ) (buffer : ℕ) → RunCall → Call
-call_in areas buffer (Change c) = form_call areas c
-call_in areas buffer (Keep c) = open_call buffer c
+unfoldable pub call_in : (areas : List ℕ) (held_len : ℕ) → RunCall → Call
+call_in areas held_len (Change c) = form_call areas c
+call_in areas held_len (Keep c) = open_call held_len c
 
 -- a boot's areas are all in the list of n words; no other call has any
 unfoldable pub AreasListed : ℕ → FormCall → Type 0
