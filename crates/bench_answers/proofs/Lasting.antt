@@ -5,9 +5,9 @@ use mathlib.Core.Bool.{Bool, true, false, cond}
 use mathlib.Core.List.{List, [], ◌∷◌, ◌++◌, append_assoc, append-nil}
 use lib.Dec.{eqb}
 use Rattle.bench_lines.specs.Commands.{command_of}
-use Rattle.std.proofs.Common.{Option}
+use Rattle.std.proofs.Common.{◌<◌, take, Option}
 use Rattle.bench_lines.specs.declared.Command.{Command}
-use Rattle.bench_lines.specs.Lines.{lines_from, held_line}
+use Rattle.bench_lines.specs.Lines.{lines_from}
 use Rattle.bench_lines.proofs.Held.{held_decides_on}
 use Rattle.bench_answers.specs.Answered.{BenchState, answered, state_after, printed}
 
@@ -55,8 +55,8 @@ same_print a b (x ∷ text) s same = go (eqb x 10) (same_print (a ++ (x ∷ []))
     go false later = later
 
 -- what is held of a line stands for all that came of it
-pub held_state : (came text : List ℕ) (s : BenchState) → state_after (lines_from (held_line came) text) s ≡ state_after (lines_from came text) s
-held_state came text s = same_state (held_line came) came text s (held_decides_on came)
+pub held_state : (room : ℕ) → 128 < room → (came text : List ℕ) (s : BenchState) → state_after (lines_from (take room came) text) s ≡ state_after (lines_from came text) s
+held_state room wide came text s = same_state (take room came) came text s (held_decides_on room wide came)
 
-pub held_print : (came text : List ℕ) (s : BenchState) → printed (lines_from (held_line came) text) s ≡ printed (lines_from came text) s
-held_print came text s = same_print (held_line came) came text s (held_decides_on came)
+pub held_print : (room : ℕ) → 128 < room → (came text : List ℕ) (s : BenchState) → printed (lines_from (take room came) text) s ≡ printed (lines_from came text) s
+held_print room wide came text s = same_print (take room came) came text s (held_decides_on room wide came)

@@ -11,7 +11,7 @@ use Rattle.model.specs.declared.Called.{Called}
 use Rattle.model.specs.declared.FrameAllocator.{FrameAllocator}
 use Rattle.rules.specs.Check.{RuledRecord}
 use Rattle.rules.proofs.Lasting.{fresh_ruled, gives_ruled}
-use Rattle.arrayvec.specs.ArrayVec.{ArrayVec}
+use Rattle.bench_areas.specs.Listed.{AreaList}
 use Rattle.bench_areas.specs.Areas.{Few, how_many}
 use Rattle.bench_texts.specs.Texts.{bad_line, answer_line}
 use Rattle.bench_answers.specs.declared.Bench.{Bench}
@@ -53,7 +53,7 @@ module _ (b : Bench) {out : List ℕ} where
     ready = record { collecting = ready.collecting; ruled = gives_ruled g ready.ruled };
   }
 
-module _ (b : Bench) {out : List ℕ} (a : Area) {after : ArrayVec Area} (few : Few after.items) where
+module _ (b : Bench) {out : List ℕ} (a : Area) {after : AreaList} (few : Few after.items) where
   -- an area more
   pub taken : how_many a.kind b.areas.items < 64 → after.items ≡ b.areas.items ++ (a ∷ []) → out ≡ [] → Gathers a b (record { allocator = b.allocator; areas = after }) out
   unfolding collecting
@@ -70,7 +70,7 @@ module _ (b : Bench) {out : List ℕ} (a : Area) {after : ArrayVec Area} (few : 
   full all kept p ws ruled =
       let many : 64 ≤ how_many a.kind b.areas.items = omega (arith, all) in
       rw (le-ltb (how_many a.kind b.areas.items) 64 many) (record {
-        state = ap (λ (xs : ArrayVec Area). record { areas = xs.items; allocator = b.allocator; words = ws }) kept;
+        state = ap (λ (xs : AreaList). record { areas = xs.items; allocator = b.allocator; words = ws }) kept;
         text = p;
         ready = record { collecting = few; ruled = ruled };
       })

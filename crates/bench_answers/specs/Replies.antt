@@ -1,12 +1,17 @@
 -- A line's answer in code.
-use Rattle.std.specs.Prelude.{ℕ, ◌≡◌, List, []}
+use Rattle.std.specs.Prelude.{ℕ, ◌*◌, ◌≡◌, List, []}
 use Rattle.model.specs.Calls.{fresh_record}
 use Rattle.model.specs.declared.Area.{Area}
 use Rattle.model.specs.declared.FrameAllocator.{FrameAllocator}
 use Rattle.rules.specs.Check.{RuledRecord}
 use Rattle.bench_areas.specs.Areas.{Few}
+use Rattle.bench_lists.specs.ListLines.{line_room}
 use Rattle.bench_answers.specs.declared.Bench.{Bench}
 use Rattle.bench_answers.specs.Answered.{BenchState, LineAnswered, collecting}
+
+-- what a line prints at most: four lists
+abbrev pub reply_room : ℕ
+reply_room = 4 * line_room
 
 -- there is room for each area that may be collected; the record keeps the rules, so that it has lists to print. `first_ready`
 -- (proofs/Replying) says that it is so before the first line.

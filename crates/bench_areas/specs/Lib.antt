@@ -1,1 +1,2 @@
 pub mod Areas
+pub mod Listed

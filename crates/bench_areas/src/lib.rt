@@ -4,11 +4,10 @@
 ghost use Rattle.std.specs.Prelude.{◌≡◌, ◌<◌, [], ◌∷◌, ◌++◌, OnOk, OnErr};
 ghost use Rattle.bench_areas.specs.Areas.{Few, how_many};
 
-use arrayvec::ArrayVec;
-use model::{Area, Kind};
+mod area_list;
 
-// "`(free S E)`, `(reserved S E)` collect areas (64 each)", in the order in which they came.
-pub type Areas = ArrayVec<Area, 128>;
+pub use area_list::Areas;
+use model::{Area, Kind};
 
 // "the 65th of a kind is `(bad)`"
 #[derive(Clone, Copy)]
@@ -24,7 +23,7 @@ pub fn collect(areas: &mut Areas, area: Area) -> Result<(), TooMany>
     ensures err { OnErr result (areas.new ≡ areas.old) }
     ensures few { Few areas.new.items }
 {
-    if 64 <= how_many(areas, area.kind) {
+    if 64 <= how_many(areas.as_slice(), area.kind) {
         return Err(TooMany);
     }
     areas.push(area);

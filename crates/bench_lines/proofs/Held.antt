@@ -11,7 +11,6 @@ use borrow.Author.Tests.{leb-true, leb-false}
 use Rattle.std.specs.Prelude.{Result, Ok, Err, IsOk, OnOk}
 use Rattle.std.proofs.lemmas.List.{take_min}
 use Rattle.bench_lines.specs.Commands.{command_of}
-use Rattle.bench_lines.specs.Lines.{held_line}
 use Rattle.bench_lines.proofs.Reading.{too_long}
 
 -- n of the bytes that come are put behind those that are held: all of them, or as many as have room
@@ -32,21 +31,21 @@ take_again zero a b = refl
 take_again (suc n) [] b = refl
 take_again (suc n) (x ∷ a) b = ap (◌∷◌ x) (take_again n a b)
 
--- a line may come in any parts: what is held after the next part is what is held of the whole
-pub held_on : (came more : List ℕ) → held_line (held_line came ++ more) ≡ held_line (came ++ more)
-held_on came more = take_again 129 came more
+-- a line may come in any parts: what is held after the next part is what is held of the whole, however many bytes have room
+pub held_on : (room : ℕ) (came more : List ℕ) → take room (take room came ++ more) ≡ take room (came ++ more)
+held_on room came more = take_again room came more
 
--- what is held decides what a line is, whatever follows
-pub held_decides_on : (came more : List ℕ) → command_of (held_line came ++ more) ≡ command_of (came ++ more)
-held_decides_on came more = by_length (leb (length came) 128) refl
+-- room for more than 128 bytes decides what a line is, whatever follows
+pub held_decides_on : (room : ℕ) → 128 < room → (came more : List ℕ) → command_of (take room came ++ more) ≡ command_of (came ++ more)
+held_decides_on room wide came more = by_length (leb (length came) 128) refl
   where
-    by_length : (t : Bool) → leb (length came) 128 ≡ t → command_of (held_line came ++ more) ≡ command_of (came ++ more)
-    by_length true e = ap (λ (t : List ℕ). command_of (t ++ more)) (take_all 129 came (omega (arith, leb-true (length came) 128 e)))
+    by_length : (t : Bool) → leb (length came) 128 ≡ t → command_of (take room came ++ more) ≡ command_of (came ++ more)
+    by_length true e = ap (λ (t : List ℕ). command_of (t ++ more)) (take_all room came (omega (arith, leb-true (length came) 128 e)))
     by_length false e =
         let long : 128 < length came = leb-false (length came) 128 e in
-        sym (too_long (held_line came ++ more) (simp (length-append, length-take) (omega arith)))
+        sym (too_long (take room came ++ more) (simp (length-append, length-take) (omega arith)))
         ∙ too_long (came ++ more) (simp length-append (omega arith))
 
 -- what is held is the command that the line is
-pub held_decides : (came : List ℕ) → command_of (held_line came) ≡ command_of came
-held_decides came = ap command_of (sym (append-nil (held_line came))) ∙ held_decides_on came [] ∙ ap command_of (append-nil came)
+pub held_decides : (room : ℕ) → 128 < room → (came : List ℕ) → command_of (take room came) ≡ command_of came
+held_decides room wide came = ap command_of (sym (append-nil (take room came))) ∙ held_decides_on room (omega (arith, wide)) came [] ∙ ap command_of (append-nil came)

@@ -8,7 +8,7 @@ use lib.ListN.{length}
 use lib.Dec.{leb, ltb}
 use borrow.Author.Tests.{ltb-false, lt-ltb, le-ltb, le-leb}
 use Rattle.std.specs.Prelude.{if◌then◌else◌, Result, Ok, Err}
-use Rattle.arrayvec.specs.ArrayVec.{ArrayVec}
+use Rattle.boot_carving.specs.Listed.{Ranges}
 use Rattle.memory_structs.specs.Range.{is_empty, above_top, top}
 use Rattle.memory_structs.specs.declared.range.FrameRange.{FrameRange}
 use Rattle.memory_structs.proofs.Bools.{neither_first, neither_second}
@@ -59,7 +59,7 @@ module _ (xs : List BootArea) where
   unfolding collected model.refusal
   first_refusals r e = go (ltb 32 (length rs)) (any_of is_empty rs) (any_outside xs) last e
     where
-      go : (x y o : Bool) (n : ℕ) → ◌≡◌ {A = Result (ArrayVec FrameRange) Refusal} (Err r) (if x then Err TooManyReservedAreas else if y then Err EmptyReservedArea else if o then Err OutOfBounds else Ok (record { items = rs })) →
+      go : (x y o : Bool) (n : ℕ) → ◌≡◌ {A = Result Ranges Refusal} (Err r) (if x then Err TooManyReservedAreas else if y then Err EmptyReservedArea else if o then Err OutOfBounds else Ok (record { items = rs })) →
           refusals.number r ≡ (if x then 5 else if y then 4 else if o then 2 else n)
       go true y o n p = ap refused_by p
       go false true o n p = ap refused_by p
@@ -73,20 +73,20 @@ module _ (xs : List BootArea) where
     inside : any_outside xs ≡ false
     to_last : number ≡ last
 
-  passed : (v : ArrayVec FrameRange) → Ok v ≡ collected xs → Passed v.items
+  passed : (v : Ranges) → Ok v ≡ collected xs → Passed v.items
   unfolding collected model.refusal
   passed v e = go (ltb 32 (length rs)) (any_of is_empty rs) (any_outside xs) refl refl refl e
     where
       go : (x y o : Bool) → ltb 32 (length rs) ≡ x → any_of is_empty rs ≡ y → any_outside xs ≡ o →
-          ◌≡◌ {A = Result (ArrayVec FrameRange) Refusal} (Ok v) (if x then Err TooManyReservedAreas else if y then Err EmptyReservedArea else if o then Err OutOfBounds else Ok (record { items = rs })) → Passed v.items
+          ◌≡◌ {A = Result Ranges Refusal} (Ok v) (if x then Err TooManyReservedAreas else if y then Err EmptyReservedArea else if o then Err OutOfBounds else Ok (record { items = rs })) → Passed v.items
       go true y o a b c p = cc
       go false true o a b c p = cc
       go false false true a b c p = cc
       go false false false a b c p =
           let w : v ≡ record { items = rs } = cc in
-          record { is = ap (λ (x : ArrayVec FrameRange). x.items) w; filled = b; inside = c; to_last = rw (a, b, c) }
+          record { is = ap (λ (x : Ranges). x.items) w; filled = b; inside = c; to_last = rw (a, b, c) }
 
-  module _ (v : ArrayVec FrameRange) (collected_is : Ok v ≡ collected xs) where
+  module _ (v : Ranges) (collected_is : Ok v ≡ collected xs) where
     p : Passed v.items
     p = passed v collected_is
 

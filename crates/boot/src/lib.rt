@@ -14,6 +14,7 @@ ghost use Rattle.boot_areas.specs.Boots.{boot_call_of};
 ghost use Rattle.boot.specs.Boots.{boot_number};
 
 use boot_areas::{AreaUnit, BootMap, WordAreas};
+use boot_carving::RangeList;
 use model::{Answer, EarlyList, FrameAllocator, Refusal};
 
 // Boots from areas given as first frame, last frame and kind. The workspace has 4,096 words in either form, else 3; it is read only in
@@ -82,12 +83,13 @@ fn fill<M: BootMap>(
         return Err(Refusal::NotEmpty);
     }
     let reserved = boot_areas::collect(map)?;
-    let pieces = boot_areas::carve(map, &reserved)?;
+    let mut pieces = RangeList::new();
+    boot_areas::carve(map, reserved.as_slice(), &mut pieces)?;
     let joined = boot_joining::join(reserved);
-    if !boot_filling::are_disjoint(&pieces, &joined) {
+    if !boot_filling::are_disjoint(pieces.as_slice(), joined.as_slice()) {
         return Err(Refusal::PiecesMeet);
     }
-    boot_filling::fill_lists(a, &pieces, &joined);
+    boot_filling::fill_lists(a, pieces.as_slice(), joined.as_slice());
     Ok(())
 }
 

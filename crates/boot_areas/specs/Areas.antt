@@ -1,7 +1,7 @@
 -- The areas of a boot map: as structs, and as a lent list of words. The words in quotes are document 01's.
 use Rattle.std.specs.Prelude.{ℕ, Bool, false, ◌||◌, List, [], ◌∷◌, map, length, ltb, Result, Ok, Err}
 use Rattle.std.specs.Prelude.{if◌then◌else◌}
-use Rattle.arrayvec.specs.ArrayVec.{ArrayVec}
+use Rattle.boot_carving.specs.Listed.{Ranges}
 use Rattle.memory_structs.specs.Range.{range, empty, is_empty, above_top, touched, bytes_out_of_bounds}
 use Rattle.memory_structs.specs.declared.range.FrameRange.{FrameRange}
 use Rattle.model.specs.Lists.{any_of}
@@ -82,7 +82,7 @@ abbrev pub pieces_in : List FrameRange → List BootArea → List FrameRange
 pieces_in rs xs = all_pieces rs (extents xs)
 
 -- "5, 4, 2": the reserved areas, or what refuses a boot before any area is carved
-unfoldable pub collected : List BootArea → Result (ArrayVec FrameRange) Refusal
+unfoldable pub collected : List BootArea → Result Ranges Refusal
 collected xs =
     if ltb 32 (length (reserved_in xs)) then Err TooManyReservedAreas else
     if any_of is_empty (reserved_in xs) then Err EmptyReservedArea else

@@ -22,16 +22,16 @@ use Rattle.boot_areas.specs.Areas.{triples, areas_in, byte_areas_in, frame_area,
 use Rattle.boot_areas.specs.Boots.{IsBoot, Bounded, boot_call_of}
 
 -- what these areas are to the model
-record Takes (xs : List BootArea) (es : List model.Extent) (outside : Bool) : Type 0 where
-  extents_are : extents xs ≡ es
-  outside_is : any_outside xs ≡ outside
+pub record Takes (xs : List BootArea) (es : List model.Extent) (outside : Bool) : Type 0 where
+  pub extents_are : extents xs ≡ es
+  pub outside_is : any_outside xs ≡ outside
 
 range_of_holds : (k : Kind) (r : FrameRange) → model.range_of (model.marked k r) ≡ r
 unfolding model.range_of model.marked
 range_of_holds General r = refl
 range_of_holds Reserved r = refl
 
-frames_taken : (areas : List Area) → Takes (boot_areas areas) (model.in_frames areas) (any_of above_top (model.ranges (model.in_frames areas)))
+pub frames_taken : (areas : List Area) → Takes (boot_areas areas) (model.in_frames areas) (any_of above_top (model.ranges (model.in_frames areas)))
 unfolding frame_area extents any_outside model.in_frames model.ranges any_of
 frames_taken [] = record { extents_are = refl; outside_is = refl }
 frames_taken (a ∷ areas) =
@@ -44,7 +44,7 @@ frames_taken (a ∷ areas) =
           ∙ ap (λ (x : FrameRange). above_top x || any_of above_top (model.ranges (model.in_frames areas))) (sym (range_of_holds a.kind r));
     }
 
-bytes_taken : (areas : List ByteArea) → Takes (boot_byte_areas areas) (model.in_bytes areas) (model.any_out_of_bounds areas)
+pub bytes_taken : (areas : List ByteArea) → Takes (boot_byte_areas areas) (model.in_bytes areas) (model.any_out_of_bounds areas)
 unfolding byte_area extents any_outside model.in_bytes model.any_out_of_bounds
 bytes_taken [] = record { extents_are = refl; outside_is = refl }
 bytes_taken (a ∷ areas) =
@@ -63,11 +63,11 @@ module _ {A : Type 0} (f : ℕ → ℕ → ℕ → A) (taken : A → BootArea) (
   words_taken (x ∷ y ∷ []) = refl
   words_taken (x ∷ y ∷ k ∷ ws) = λ i. same x y k i ∷ words_taken ws i
 
-words_frames : (ws : List ℕ) → read Frames ws ≡ boot_areas (areas_in ws)
+pub words_frames : (ws : List ℕ) → read Frames ws ≡ boot_areas (areas_in ws)
 unfolding area_of
 words_frames ws = words_taken (λ s e k. record { start = s; end = e; kind = kind_of_word k }) boot_area Frames (λ x y k. refl) ws
 
-words_bytes : (ws : List ℕ) → read Bytes ws ≡ boot_byte_areas (byte_areas_in ws)
+pub words_bytes : (ws : List ℕ) → read Bytes ws ≡ boot_byte_areas (byte_areas_in ws)
 unfolding area_of
 words_bytes ws = words_taken (λ a b k. record { address = a; bytes = b; kind = kind_of_word k }) boot_byte_area Bytes (λ x y k. refl) ws
 
@@ -95,10 +95,10 @@ bytes_bounded areas e =
     ap (λ (xs : List model.Extent). any_of above_top (model.ranges xs)) t.extents_are ∙ bytes_below areas (sym t.outside_is ∙ e)
 
 -- of words: of what is read of them
-frame_words_boot : (ws : List ℕ) → IsBoot (boot_call (areas_in ws)) (read Frames ws)
+pub frame_words_boot : (ws : List ℕ) → IsBoot (boot_call (areas_in ws)) (read Frames ws)
 frame_words_boot ws = subst (IsBoot (boot_call (areas_in ws))) (sym (words_frames ws)) (frames_boot (areas_in ws))
 
-byte_words_boot : (ws : List ℕ) → IsBoot (boot_bytes_call (byte_areas_in ws)) (read Bytes ws)
+pub byte_words_boot : (ws : List ℕ) → IsBoot (boot_bytes_call (byte_areas_in ws)) (read Bytes ws)
 byte_words_boot ws = subst (IsBoot (boot_bytes_call (byte_areas_in ws))) (sym (words_bytes ws)) (bytes_boot (byte_areas_in ws))
 
 pub words_boot : (u : AreaUnit) (ws : List ℕ) → IsBoot (boot_call_of u ws) (read u ws)

@@ -1,3 +1,4 @@
 pub mod Areas
 pub mod Boots
 pub mod Laws
+pub mod Surveys

@@ -1,16 +1,17 @@
 // The areas of a boot map, in any form: document 01, "Areas come as a lent list of start, end and kind".
 #![tactic(auto)]
 
-ghost use Rattle.std.specs.Prelude.{◌≡◌, ◌<◌, List, map, length, get_or, IfOk, IfErr, OnErr};
+ghost use Rattle.std.specs.Prelude.{◌≡◌, ◌<◌, [], ◌∷◌, ◌++◌, List, map, length, take, get_or, IfErr, OnOk, OnErr};
 ghost use Rattle.model.specs.Calls.{Call, boot_call, boot_bytes_call};
 ghost use Rattle.model.specs.declared.refusals.Refusal.TheVariants.{TooManyPieces};
 ghost use Rattle.boot_carving.specs.Ranges.{Carvable};
 ghost use Rattle.boot_areas.specs.Areas.{collected, pieces_in, boot_area, boot_byte_area, area_of, read, no_area};
+ghost use Rattle.boot_areas.specs.Surveys.{Surveys};
 ghost use Rattle.boot_areas.specs.Boots.{IsBoot, Bounded, boot_call_of};
 ghost use Rattle.boot_areas.specs.declared.BootArea.{BootArea};
 ghost use Rattle.boot_areas.specs.Laws.{frames_boot, bytes_boot, words_boot, frames_bounded, bytes_bounded, words_bounded};
 
-use boot_carving::{RangeList, check_and_add_free_region};
+use boot_carving::{Full, RangeList, check_and_add_free_region};
 use memory_structs::FrameRange;
 use model::{Area, ByteArea, Kind, Refusal};
 
@@ -176,53 +177,85 @@ fn area_of(unit: AreaUnit, first: u64, second: u64, third: u64) -> BootArea
     }
 }
 
-// The reserved areas in the given order, or what refuses a boot before any area is carved: "5, 4, 2", in this order, over the whole map. It
-// is read once, however long it is and however the kinds are mixed.
-#[tactic(auto, using(crate::proofs::Steps::collecting_start, crate::proofs::Steps::one_empty, crate::proofs::Steps::one_outside, crate::proofs::Steps::all_collected))]
-pub fn collect<M: BootMap>(map: &M) -> Result<RangeList, Refusal>
-    ensures { result ≡ collected (M.areas map.now) }
+// What is known of all areas before the first is carved: the reserved ones in the given order, the first 32 of them, whether there are more (5), whether
+// one is empty (4), and whether 2 refuses any area.
+#[derive(Clone, Copy)]
+pub struct Collected {
+    pub reserved: RangeList,
+    pub any_more: bool,
+    pub any_empty: bool,
+    pub any_outside: bool,
+}
+
+// Reads the whole map once, however long it is and however the kinds are mixed. It refuses nothing: which of 5, 4 and 2 comes first is for `collect`.
+#[tactic(auto, using(crate::proofs::Surveyed::all_surveyed))]
+pub fn survey<M: BootMap>(map: &M) -> Collected
+    ensures { Surveys (M.areas map.now) result }
 {
-    let mut reserved = RangeList::new();
-    let mut any_empty = false;
-    let mut any_outside = false;
+    let mut seen = Collected {
+        reserved: RangeList::new(),
+        any_more: false,
+        any_empty: false,
+        any_outside: false,
+    };
     for i in 0..map.area_count() {
-        let area = map.area_at(i);
-        any_outside |= area.outside;
-        match area.kind {
-            Kind::General => {}
-            Kind::Reserved => {
-                any_empty |= area.frames.is_empty();
-                // 5 comes before 4 and 2, so that what comes after the 33rd reserved area changes nothing.
-                reserved
-                    .try_push(area.frames)
-                    .map_err(|_| Refusal::TooManyReservedAreas)?;
+        collect_area(&mut seen, map.area_at(i));
+    }
+    seen
+}
+
+// One area more.
+fn collect_area(seen: &mut Collected, area: BootArea)
+    ensures { (xs : List BootArea) → Surveys xs seen.old → Surveys (xs ++ area ∷ []) seen.new }
+{
+    seen.any_outside |= area.outside;
+    match area.kind {
+        Kind::General => {}
+        Kind::Reserved => {
+            seen.any_empty |= area.frames.is_empty();
+            if let Err(Full) = seen.reserved.try_push(area.frames) {
+                seen.any_more = true;
             }
         }
     }
-    if any_empty {
-        return Err(Refusal::EmptyReservedArea);
-    }
-    if any_outside {
-        return Err(Refusal::OutOfBounds);
-    }
-    Ok(reserved)
 }
 
-// The pieces of each general area, in the given order.
-#[tactic(auto, using(crate::proofs::Steps::carve_many, crate::proofs::Steps::carving_end))]
-pub fn carve<M: BootMap>(map: &M, reserved: &[FrameRange]) -> Result<RangeList, Refusal>
-    requires { Carvable reserved.now }
-    ensures ok { IfOk result (λ pieces. pieces.items ≡ pieces_in reserved.now (M.areas map.now)) }
-    ensures err { IfErr result (λ refusal. refusal ≡ TooManyPieces) }
-    ensures many { OnErr result (32 < length (pieces_in reserved.now (M.areas map.now))) }
+// The reserved areas in the given order, or what refuses a boot before any area is carved: "5, 4, 2", in this order, over the whole map.
+pub fn collect<M: BootMap>(map: &M) -> Result<RangeList, Refusal>
+    ensures { result ≡ collected (M.areas map.now) }
 {
-    let mut pieces = RangeList::new();
+    let seen = survey(map);
+    if seen.any_more {
+        return Err(Refusal::TooManyReservedAreas);
+    }
+    if seen.any_empty {
+        return Err(Refusal::EmptyReservedArea);
+    }
+    if seen.any_outside {
+        return Err(Refusal::OutOfBounds);
+    }
+    Ok(seen.reserved)
+}
+
+// The pieces of each general area go in, in the given order. Where they are more than 32 it is refused, and the first 32 are in the list.
+#[tactic(auto, using(crate::proofs::Steps::carve_many, crate::proofs::Steps::carve_first, crate::proofs::Steps::carving_end))]
+pub fn carve<M: BootMap>(
+    map: &M,
+    reserved: &[FrameRange],
+    pieces: &mut RangeList,
+) -> Result<(), Refusal>
+    requires { Carvable reserved.now }
+    ensures ok { OnOk result (pieces.new.items ≡ pieces.old.items ++ pieces_in reserved.now (M.areas map.now)) }
+    ensures err { IfErr result (λ refusal. refusal ≡ TooManyPieces) }
+    ensures many { OnErr result (32 < length (pieces.old.items ++ pieces_in reserved.now (M.areas map.now))) }
+    ensures full { OnErr result (pieces.new.items ≡ take 32 (pieces.old.items ++ pieces_in reserved.now (M.areas map.now))) }
+{
     for i in 0..map.area_count() {
         let area = map.area_at(i);
         match area.kind {
-            Kind::General => check_and_add_free_region(reserved, area.frames, &mut pieces)?,
+            Kind::General => check_and_add_free_region(reserved, area.frames, pieces)?,
             Kind::Reserved => {}
         }
     }
-    Ok(pieces)
+    Ok(())
 }

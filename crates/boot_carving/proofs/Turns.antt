@@ -1,5 +1,6 @@
 -- The turns of carving: an area is carved by the reserved ones passed, and what is left of it by those to come.
-use Rattle.std.proofs.Common.{◌≡◌, ℕ, zero, suc, ◌+◌, ◌-◌, ◌≤◌, ◌<◌, Bool, true, false, List, [], ◌∷◌, ◌++◌, length, get_or, drop, sym, ap, ◌∙◌, arith, add-one, drop-cons, length-append}
+use Rattle.std.proofs.Common.{◌≡◌, ℕ, zero, suc, ◌+◌, ◌-◌, ◌≤◌, ◌<◌, Bool, true, false, List, [], ◌∷◌, ◌++◌, length, get_or, take, drop, sym, ap, ◌∙◌, arith, add-one, drop-cons, length-append}
+use Rattle.std.proofs.lemmas.List.{take-append-le}
 use mathlib.Core.List.{append_assoc}
 use lib.ListN.{drop_of_length-le}
 use lib.Dec.{leb}
@@ -66,6 +67,9 @@ module _ (rs : List FrameRange) (ok : Carvable rs) where
     unfolding walk
     carved_end h = t.left ∙ ap (λ (l : List FrameRange). p ++ walk above l s e) (drop_of_length-le rs {i = i} h)
 
+    pub end_first : length rs ≤ i → take 32 (p ++ piece s e) ≡ take 32 (p₀ ++ pieces rs a)
+    end_first h = sym (ap (take 32) (carved_end h))
+
     module _ (h : i < length rs) where
       abbrev r : FrameRange
       r = at i
@@ -104,6 +108,9 @@ module _ (rs : List FrameRange) (ok : Carvable rs) where
         unfolding walk
         carved_stop d = step ∙ rw (le-leb (past r s) r.start b, le-leb r.start e c, le-leb e r.end d)
 
+        pub stop_first : e ≤ r.end → take 32 (p ++ piece (past r s) (r.start - 1)) ≡ take 32 (p₀ ++ pieces rs a)
+        stop_first d = sym (ap (take 32) (carved_stop d))
+
         module _ (d : r.end < e) where
           -- the part above it is to be carved
           pub part : p₀ ++ pieces rs a ≡ (p ++ above (r.end + 1) e) ++ walk above (drop (i + 1) rs) (past r s) (r.start - 1)
@@ -122,3 +129,7 @@ module _ (rs : List FrameRange) (ok : Carvable rs) where
           -- or has too many pieces
           pub part_many : 32 < length (p ++ above (r.end + 1) e) → 32 < length (p₀ ++ pieces rs a)
           part_many m = omega (arith, ap length part, length-append (p ++ above (r.end + 1) e) (walk above (drop (i + 1) rs) (past r s) (r.start - 1)))
+
+          -- and the first 32 of them are the first 32 of all
+          pub part_first : 32 < length (p ++ above (r.end + 1) e) → take 32 (p ++ above (r.end + 1) e) ≡ take 32 (p₀ ++ pieces rs a)
+          part_first m = sym (ap (take 32) part ∙ take-append-le 32 (p ++ above (r.end + 1) e) (walk above (drop (i + 1) rs) (past r s) (r.start - 1)) (omega (arith, m)))

@@ -29,7 +29,7 @@ fn pass(areas: RangeList) -> RangeList
 {
     let mut joined = RangeList::new();
     let mut left = areas;
-    while let Some((first, others)) = left.split_first() {
+    while let Some((first, others)) = left.as_slice().split_first() {
         let (area, rest) = absorb(*first, others);
         joined.push(area);
         left = rest;

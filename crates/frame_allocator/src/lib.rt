@@ -8,7 +8,7 @@ pub mod by_value;
 
 pub use calls::{allocate, return_frames};
 pub use memory_structs::{FrameRange, Halves, OutOfBounds, SplitFrames};
-pub use model::{Answer, Area, ByteArea, Called, FrameAllocator, Kind, fresh};
+pub use model::{Answer, Area, ByteArea, Called, FrameAllocator, Kind, Refusal, fresh};
 pub use queries::{free_total, held_list, kind_of_range};
 pub use requests::Request;
 pub use rules::check;

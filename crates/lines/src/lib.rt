@@ -1,17 +1,20 @@
 // The words of a line of text, parted by one space: numbers in decimal, below 2^64, and kinds of areas, read into lent words. For the
-// programs that read lines. Lent words and no `Vec`: reading cannot fail for want of memory, and a clause names each word.
+// programs that read lines, with the output that they write to. Lent words and no `Vec`: reading cannot fail for want of memory, and a clause names each word.
 #![tactic(auto)]
 
 ghost use Rattle.std.specs.Prelude.{◌≡◌, ◌≤◌, length, IfOk, IfErr};
 ghost use Rattle.lines.specs.Words as words;
 ghost use Rattle.lines.specs.declared.Layout.TheVariants.{Numbers, Areas};
 
+mod output;
+
 use model::Kind;
+pub use output::Output;
 
 // What the words that follow a name are: numbers, or areas of two numbers and a kind each. An enum and no trait: in a function with a type
 // parameter the toolchain refuses its own part of the proof of a `for` over `split`.
 #[derive(Clone, Copy)]
-enum Layout {
+pub enum Layout {
     Numbers,
     Areas,
 }
@@ -46,7 +49,7 @@ pub fn read_areas(text: &[u8], numbers: &mut [u64]) -> Result<usize, Unread>
 }
 
 // Reads the words that follow a name.
-fn read_words(text: &[u8], layout: Layout, numbers: &mut [u64]) -> Result<usize, Unread>
+pub fn read_words(text: &[u8], layout: Layout, numbers: &mut [u64]) -> Result<usize, Unread>
     ensures reads { words.Reads (words.read_after layout text.now numbers.old) result numbers.new }
     ensures len_in_bounds { IfOk result (λ len. len ≤ length numbers.new) }
     ensures put_in_bounds { IfErr result (λ unread. unread.put ≤ length numbers.new) }

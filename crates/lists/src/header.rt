@@ -101,7 +101,7 @@ impl Header {
 
 // How many words a list's part has.
 #[tactic(auto, unfolding(crate::specs::Part::width))]
-fn width(sorted: bool) -> usize
+pub fn width(sorted: bool) -> usize
     ensures { result ≡ part.width sorted }
 {
     if sorted { TABLE_WORDS } else { SLOT_WORDS }
@@ -109,7 +109,7 @@ fn width(sorted: bool) -> usize
 
 // Where it begins.
 #[tactic(auto, unfolding(crate::specs::Whole::part_of))]
-fn part_of(width: usize, which: WhichList) -> usize
+pub fn part_of(width: usize, which: WhichList) -> usize
     requires { width ≤ 1024 }
     ensures { result ≡ part_of width which }
 {

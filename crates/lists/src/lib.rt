@@ -15,7 +15,7 @@ mod list;
 mod packing;
 
 pub use four_lists::FourLists;
-pub use header::{HandedBack, Header, WhichList};
+pub use header::{HandedBack, Header, WhichList, part_of, width};
 pub use list::List;
 use memory_structs::FrameRange;
 use model::{ENTRIES, SLOTS};

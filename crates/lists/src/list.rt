@@ -79,11 +79,14 @@ impl<'a> List<'a> {
         tables::entry(self.words, i)
     }
 
-    // Whether an entry has a frame of the range, which has one at least.
+    // Whether an entry has a frame of the range.
+    #[tactic(auto, using(crate::proofs::Meeting::none_met))]
     pub fn meets(self, range: FrameRange) -> bool
-        requires { range.start ≤ range.end }
         ensures { result ≡ any_of (meets range) (entries (list_slots self.entry)) }
     {
+        if range.is_empty() {
+            return false;
+        }
         if self.part.sorted {
             return table_meets(self.table(), range);
         }

@@ -1,10 +1,6 @@
 -- What the questions answer, test by test.
 use mathlib.Core.Path.{◌≡◌, refl}
 use mathlib.Core.Bool.{true, false}
-use mathlib.Core.List.{List, [], ◌∷◌}
-use Prim.Native.Nat.{◌<◌, min, max}
-use native.Mathlib.Omega.{arith}
-use borrow.Author.Tests.{ltb-true, lt-leb}
 use Rattle.memory_structs.specs.Range.{meets, is_empty, above_top}
 use Rattle.memory_structs.specs.declared.range.FrameRange.{FrameRange}
 use Rattle.model.specs.Lists.{Lists, entries, any_of, sum}
@@ -12,16 +8,9 @@ use Rattle.model.specs.Requests.{without_frames, refused, counted}
 use Rattle.model.specs.Queries.{kind_of, total}
 use Rattle.model.specs.declared.Kind.{Kind}
 use Rattle.model.specs.declared.Kind.TheVariants.{General, Reserved}
+use Rattle.lists.proofs.Meeting.{none_met}
 use Rattle.lists.specs.Whole.{slots_at}
 use Rattle.query_core.specs.Kinds.{free_list}
-
--- an empty range has no frame of any range
-none_met : (r : FrameRange) → is_empty r ≡ true → (rs : List FrameRange) → any_of (meets r) rs ≡ false
-unfolding any_of
-none_met r e [] = refl
-none_met r e (x ∷ rs) =
-    let l : r.end < r.start = ltb-true _ _ e in
-    rw (lt-leb (max r.start x.start) (min r.end x.end) (omega arith)) (none_met r e rs)
 
 module _ (r : FrameRange) (l : Lists) where
   pub kind_above : above_top r ≡ true → without_frames 2 0 ≡ (kind_of r l).answer

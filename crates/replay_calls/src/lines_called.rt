@@ -33,9 +33,9 @@ fn broken_word(
 ) -> io::Result<()> {
     let last = words[4095];
     words[4095] = 1;
-    asked::call(out, a, words, call)?;
+    let written = asked::call(out, a, words, call);
     words[4095] = last;
-    Ok(())
+    written
 }
 
 fn show(
@@ -51,4 +51,9 @@ fn begin_again(out: &mut impl Write, a: &mut FrameAllocator, words: &mut [u64]) 
     words.fill(1);
     *a = model::fresh();
     writeln!(out, "done")
+}
+
+// The answer to a line that is no call.
+pub fn bad(out: &mut impl Write) -> io::Result<()> {
+    writeln!(out, "(bad)")
 }

@@ -33,22 +33,27 @@ mod lines_called;
 mod reading;
 mod shown;
 
+use lines::Output;
 use model::WORKSPACE_WORDS;
-use std::io::{self, BufRead, BufReader, BufWriter, Write};
 
-// Answers each line; the last may lack its line end.
-fn main(rt: HostRuntime) -> io::Result<()> {
-    let alloc = rt.alloc();
-    let mut out = BufWriter::new(alloc, io::writer(&rt))?;
+// Standard input.
+const STDIN_FILENO: i32 = 0;
+
+// Reads up to 262,144 bytes of text, and answers each line; the last may lack its line end. No heap. A read that fails ends the text, and a write that
+// fails is not told (`Output`).
+fn main() {
+    let mut text = [0; 262144];
+    let n = io::read_full(STDIN_FILENO, &mut text);
+    let mut out = Output;
     // Room for 40 areas, so that 33 reserved ones or 33 pieces fit.
     let mut numbers = [0; 120];
     let mut words = [1; WORKSPACE_WORDS];
     let mut a = model::fresh();
-    for line in BufReader::new(alloc, rt.reader())?.split(alloc, b'\n') {
-        match reading::read_line(&line?, &mut numbers) {
-            Some(line) => lines_called::answer(&mut out, &mut a, &mut words, line)?,
-            None => writeln!(out, "(bad)")?,
-        }
+    for part in text[..n].split_inclusive(|b| *b == b'\n') {
+        let line = part.strip_suffix(b"\n").unwrap_or(part);
+        let _ = match reading::read_line(line, &mut numbers) {
+            Some(line) => lines_called::answer(&mut out, &mut a, &mut words, line),
+            None => lines_called::bad(&mut out),
+        };
     }
-    out.flush()
 }

@@ -1,4 +1,4 @@
-// A record's lists and an answer as words of a line.
+// A record's lists and an answer as words of a line. Each word is a write of its own, so that one that fails loses that word alone.
 use memory_structs::FrameRange;
 use model::{Answer, EarlyList, FrameAllocator, SLOTS, WORKSPACE_WORDS};
 use std::fmt::{self, Display, Formatter};
@@ -17,8 +17,13 @@ impl Display for Shown {
         match answer.number {
             0 if granted => write!(f, "granted")?,
             0 => write!(f, "done")?,
-            number if granted => write!(f, "refused {number} granted")?,
-            number => write!(f, "refused {number}")?,
+            number => {
+                write!(f, "refused")?;
+                write!(f, " {number}")?;
+                if granted {
+                    write!(f, " granted")?;
+                }
+            }
         }
         if granted {
             write!(f, " {} {}", answer.range.start, answer.range.end)?;
@@ -38,7 +43,8 @@ impl Display for Counted {
     fn fmt<W: fmt::Write>(&self, f: &mut Formatter<W>) -> fmt::Result {
         let answer = self.0;
         if answer.number == 0 && answer.frame == 0 {
-            write!(f, "counted {}", answer.count)
+            write!(f, "counted")?;
+            write!(f, " {}", answer.count)
         } else {
             write!(f, "{}", Shown(answer))
         }
@@ -63,7 +69,8 @@ fn sorted(
     a: &FrameAllocator,
     words: &[u64; WORKSPACE_WORDS],
 ) -> io::Result<()> {
-    write!(out, "sorted general_free")?;
+    write!(out, "sorted")?;
+    write!(out, " general_free")?;
     pairs(out, &words[..1024], a.general_free_len)?;
     write!(out, " reserved_free")?;
     pairs(out, &words[1024..2048], a.reserved_free_len)?;
@@ -74,7 +81,8 @@ fn sorted(
 }
 
 fn early(out: &mut impl Write, a: &FrameAllocator) -> io::Result<()> {
-    write!(out, "early general_free")?;
+    write!(out, "early")?;
+    write!(out, " general_free")?;
     slots(out, &a.general_free)?;
     write!(out, " reserved_free")?;
     slots(out, &a.reserved_free)?;

@@ -4,59 +4,42 @@
 
 ghost use Rattle.std.specs.Prelude.{◌*◌, ◌^◌, ◌<◌};
 
+use lines::Output;
 use memory_structs::{FrameRange, OutOfBounds};
-use range_answers::{OUT_OF_BOUNDS, Shows};
-use std::alloc::Global;
-use std::io::{self, BufRead, BufReader, BufWriter, Write};
+use range_answers::Shows;
+use std::io::{Result as IoResult, Write};
 
-fn main(rt: HostRuntime) -> io::Result<()> {
-    let alloc = rt.alloc();
-    let mut out = BufWriter::new(alloc, io::writer(&rt))?;
-    for line in BufReader::new(alloc, rt.reader())?.split(alloc, b'\n') {
-        answer_line(alloc, &mut out, &line?)?;
+// Standard input.
+const STDIN_FILENO: i32 = 0;
+
+// Reads up to 65,536 bytes of text, and answers each line; the last may lack its line end. No heap. A read that fails ends the text, and a write that
+// fails is not told (`Output`).
+fn main() {
+    let mut text = io::large_buffer();
+    let n = io::read_full(STDIN_FILENO, &mut text);
+    let mut out = Output;
+    for part in text[..n].split_inclusive(|b| *b == b'\n') {
+        let _ = answer_line(&mut out, part.strip_suffix(b"\n").unwrap_or(part));
     }
-    out.flush()
 }
 
-fn answer_line(alloc: Global, out: &mut impl Write, line: &[u8]) -> io::Result<()> {
-    let Ok(text) = str::from_utf8(line) else {
-        return bad(out);
-    };
-    let (name, rest) = text.split_once(' ').unwrap_or((text, ""));
-    let numbers: Option<Vec<u64>> = rest
-        .split(' ')
-        .map(|word| lines::decimal(word.as_bytes()))
-        .collect(alloc)?;
-    match numbers {
-        Some(numbers) => answer(out, name, &numbers),
-        None => bad(out),
+// The call's name, and its numbers after it.
+fn answer_line(out: &mut impl Write, line: &[u8]) -> IoResult<()> {
+    let name_end = line.iter().position(|b| *b == b' ').unwrap_or(line.len());
+    let (name, words) = line.split_at(name_end);
+    let mut numbers = [0; 4];
+    match lines::read_numbers(words, &mut numbers) {
+        Ok(len) => answer(out, name, &numbers[..len]),
+        Err(_) => bad(out),
     }
 }
 
 // Makes the call of this name where it takes so many numbers, and prints its answer.
-fn answer(out: &mut impl Write, name: &str, numbers: &[u64]) -> io::Result<()> {
-    match (name, numbers) {
-        ("size_in_frames", &[start, end]) => {
-            print(out, FrameRange::new(start, end).size_in_frames().map(Some))
-        }
-        ("from_phys_addr", &[address, bytes]) => print(
-            out,
-            FrameRange::from_phys_addr(address, bytes).map(Some),
-        ),
-        ("to_extended", &[start, end, frame]) => print(
-            out,
-            FrameRange::new(start, end).to_extended(frame).map(Some),
-        ),
-        ("offset_of_address", &[start, end, address]) => {
-            print(out, FrameRange::new(start, end).offset_of_address(address))
-        }
-        ("address_at_offset", &[start, end, offset]) => {
-            print(out, FrameRange::new(start, end).address_at_offset(offset))
-        }
-        ("split_at", &[start, end, frame]) => {
-            print(out, FrameRange::new(start, end).split_at(frame))
-        }
-        (_, &[start, end, other_start, other_end]) => answer_two(
+fn answer(out: &mut impl Write, name: &[u8], numbers: &[u64]) -> IoResult<()> {
+    match *numbers {
+        [first, second] => answer_two(out, name, first, second),
+        [start, end, n] => answer_three(out, name, FrameRange::new(start, end), n),
+        [start, end, other_start, other_end] => answer_four(
             out,
             name,
             FrameRange::new(start, end),
@@ -66,21 +49,42 @@ fn answer(out: &mut impl Write, name: &str, numbers: &[u64]) -> io::Result<()> {
     }
 }
 
+fn answer_two(out: &mut impl Write, name: &[u8], first: u64, second: u64) -> IoResult<()> {
+    match name {
+        b"size_in_frames" => print(
+            out,
+            FrameRange::new(first, second).size_in_frames().map(Some),
+        ),
+        b"from_phys_addr" => print(out, FrameRange::from_phys_addr(first, second).map(Some)),
+        _ => bad(out),
+    }
+}
+
+fn answer_three(out: &mut impl Write, name: &[u8], range: FrameRange, n: u64) -> IoResult<()> {
+    match name {
+        b"to_extended" => print(out, range.to_extended(n).map(Some)),
+        b"offset_of_address" => print(out, range.offset_of_address(n)),
+        b"address_at_offset" => print(out, range.address_at_offset(n)),
+        b"split_at" => print(out, range.split_at(n)),
+        _ => bad(out),
+    }
+}
+
 // The calls on two ranges.
-fn answer_two(
+fn answer_four(
     out: &mut impl Write,
-    name: &str,
+    name: &[u8],
     range: FrameRange,
     other: FrameRange,
-) -> io::Result<()> {
+) -> IoResult<()> {
     match name {
-        "contains_range" => print(
+        b"contains_range" => print(
             out,
             range.contains_range(other).map(|found| found.then_some(())),
         ),
-        "overlap" => print(out, range.overlap(other)),
-        "merge" => print(out, range.merge(other)),
-        "split_range" => print(out, range.split_range(other)),
+        b"overlap" => print(out, range.overlap(other)),
+        b"merge" => print(out, range.merge(other)),
+        b"split_range" => print(out, range.split_range(other)),
         _ => bad(out),
     }
 }
@@ -89,11 +93,15 @@ fn answer_two(
 fn print<T: Shows<N>, const N: usize>(
     out: &mut impl Write,
     answer: Result<Option<T>, OutOfBounds>,
-) -> io::Result<()>
+) -> IoResult<()>
     requires fits { N * 8 < 2 ^ 63 }
 {
     let (found, value) = match answer {
-        Err(OutOfBounds) => return writeln!(out, "refused {OUT_OF_BOUNDS}"),
+        Err(OutOfBounds) => {
+            // One write, with the number of `OUT_OF_BOUNDS`, and the line's end another: one that fails loses no more.
+            write!(out, "refused 2")?;
+            return writeln!(out);
+        }
         Ok(None) => (false, T::NONE),
         Ok(Some(value)) => (true, value),
     };
@@ -109,6 +117,6 @@ fn print<T: Shows<N>, const N: usize>(
 }
 
 // The answer to a line that is no call.
-fn bad(out: &mut impl Write) -> io::Result<()> {
+fn bad(out: &mut impl Write) -> IoResult<()> {
     writeln!(out, "(bad)")
 }

@@ -180,7 +180,7 @@ asks_open c h es ws u same {x} e {d} p = record {
   kept = refl;
 }
 
-long_held : (n : ℕ) → short_buffer (held_call n) ≡ false → 2048 ≤ n
+pub long_held : (n : ℕ) → short_buffer (held_call n) ≡ false → 2048 ≤ n
 unfolding short_buffer
 long_held n e = ltb-false n 2048 e
 

@@ -8,22 +8,24 @@ use Rattle.bench_answers.specs.Answered.{four_lines}
 use Rattle.bench_answers.proofs.put_lists.Goals as goal
 
 pub put_list-requires-2 : goal.put_list-requires-2
-put_list-requires-2 c = omega (arith, ap length c.requires, line_within _ _ c.args.out.now.items c.args.lists.ruled.keeps c.put_list.ensures)
+put_list-requires-2 g c = omega (arith, ap length c.requires.empty, c.requires.room, line_within _ _ c.args.out.now.items c.args.lists.ruled.keeps c.put_list.ensures)
 
 pub put_list-requires-3 : goal.put_list-requires-3
-put_list-requires-3 c =
+put_list-requires-3 g c =
     omega (
       arith,
-      ap length c.requires,
+      ap length c.requires.empty,
+      c.requires.room,
       line_within _ _ c.args.out.now.items c.args.lists.ruled.keeps c.put_list.ensures,
       line_within _ _ c.put_list.new.out.items c.args.lists.ruled.keeps c.put_list-2.ensures,
     )
 
 pub put_list-requires-4 : goal.put_list-requires-4
-put_list-requires-4 c =
+put_list-requires-4 g c =
     omega (
       arith,
-      ap length c.requires,
+      ap length c.requires.empty,
+      c.requires.room,
       line_within _ _ c.args.out.now.items c.args.lists.ruled.keeps c.put_list.ensures,
       line_within _ _ c.put_list.new.out.items c.args.lists.ruled.keeps c.put_list-2.ensures,
       line_within _ _ c.put_list-2.new.out.items c.args.lists.ruled.keeps c.put_list-3.ensures,
@@ -31,4 +33,4 @@ put_list-requires-4 c =
 
 pub returns : goal.returns
 unfolding four_lines
-returns c = rw (c.put_list-4.ensures, c.put_list-3.ensures, c.put_list-2.ensures, c.put_list.ensures, c.requires) (simp append_assoc)
+returns g c = rw (c.put_list-4.ensures, c.put_list-3.ensures, c.put_list-2.ensures, c.put_list.ensures, c.requires.empty) (simp append_assoc)

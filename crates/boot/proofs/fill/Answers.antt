@@ -3,4 +3,4 @@ use Rattle.boot.proofs.Numbers.{may_carve}
 use Rattle.boot.proofs.fill.Goals as goal
 
 pub carve-requires : goal.carve-requires
-carve-requires g c = rw c.deref.ensures.0 (may_carve _ _ c.in_ok-reserved.ensures (g.met.M.BootMap.bounded c.args.map.now))
+carve-requires g c = rw c.as_slice.ensures.ranges (may_carve _ _ c.in_ok-reserved.ensures (g.met.M.BootMap.bounded c.args.map.now))

@@ -33,13 +33,13 @@ loop-part-preserved-in-Some-strip_suffix c =
     let at = (cut.1.2 (λ b. b == 10) (always_returns_same _ (λ x r. r ≡ (x.0.now == 10)) _ (λ x r q k. (search (rules, tests), refl)))).1 in
     let is : c.in-Some.part.now ≡ line ++ (10 ∷ []) = strip_suffix_is Decides-eqb c.in-Some.part.now (10 ∷ []) (Some c.in-Some-strip_suffix.line) c.in-Some-strip_suffix.ensures.cases in
     let u = part_ended _ c.in-Some.part.now left cut.1.0 cut.0 cut.1.1 at line is in
-    let whole = c.hold.ensures ∙ ap (λ (t : List ℕ). held_line (t ++ line)) v.answers.rest ∙ held_on _ line in
+    let whole = c.hold.ensures ∙ ap (λ (t : List ℕ). held_line (t ++ line)) v.answers.rest ∙ held_on 129 _ line in
     record {
       ready = record { ready = a.replies.ready; held_in = omega (arith, ap length a.none_held) };
       so_far = v.so_far ++ (line ++ (10 ∷ []));
       parted = v.parted ∙ ap (λ (t : List ℕ). v.so_far ++ t) (cut.0 ∙ ap (λ (t : List ℕ). t ++ left) is) ∙ sym (append_assoc v.so_far (line ++ (10 ∷ [])) left);
       answers = record {
-        state = state_on _ v.so_far line _ u v.answers.state (ap command_of whole ∙ held_decides _) a.replies.state;
+        state = state_on _ v.so_far line _ u v.answers.state (ap command_of whole ∙ held_decides 129 (omega arith) _) a.replies.state;
         rest = a.none_held ∙ held_none _ v.so_far line u;
       };
     }
@@ -52,7 +52,7 @@ loop-part-preserved c =
     let left = c.next.new.self.rest.now in
     let at = (cut.1.2 (λ b. b == 10) (always_returns_same _ (λ x r. r ≡ (x.0.now == 10)) _ (λ x r q k. (search (rules, tests), refl)))).1 in
     let u = part_open _ part left cut.1.0 cut.0 cut.1.1 at (strip_suffix_is Decides-eqb part (10 ∷ []) None c.in_default.ensures.cases) in
-    let whole = c.hold-in_default.ensures ∙ ap (λ (t : List ℕ). held_line (t ++ part)) v.answers.rest ∙ held_on _ part in
+    let whole = c.hold-in_default.ensures ∙ ap (λ (t : List ℕ). held_line (t ++ part)) v.answers.rest ∙ held_on 129 _ part in
     record {
       ready = record { ready = v.ready.ready; held_in = held_few _ c.hold-in_default.ensures };
       so_far = v.so_far ++ part;

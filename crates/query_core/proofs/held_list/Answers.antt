@@ -1,5 +1,6 @@
 -- `held_list`: over the tables, or over the slots in order.
 use mathlib.Core.Path.{◌∙◌}
+use Rattle.std.proofs.Common.{rules}
 use Rattle.query_core.proofs.Forms.{sorted_written, early_written, is_listed}
 use Rattle.query_core.proofs.held_list.Goals as goal
 
@@ -9,4 +10,4 @@ returns-then-lists c = let l = c.args.lists in
 
 pub returns : goal.returns
 returns c = let l = c.args.lists in
-    is_listed (early_written l.header l.entries.now l.ruled c.if-lists.false (c.slots.ensures.list ∙ c.list-regions.ensures.list) (c.slots-2.ensures.list ∙ c.list-chunks.ensures.list) c.write_from_pairs-runs.ensures) c.counted-2.ensures
+    is_listed (early_written l.header l.entries.now l.ruled c.if-lists.false (search rules) (search rules) c.write_from_pairs-runs.ensures) c.counted-2.ensures

@@ -8,8 +8,8 @@ use Rattle.bench_answers.proofs.Replying.{tells, alone}
 use Rattle.bench_answers.proofs.Bench.boot.Goals as goal
 
 pub returns : goal.returns
-returns c =
+returns g c =
     let a = c.args in
-    tells a.self.now c.requires.1
-    (subst (λ (xs : List Area). Gives (boot_call xs) a.self.now.allocator a.words.now (answered_with c.boot_map-answer.result c.boot_map-answer.new.a) a.words.now) c.as_slice.ensures.value c.boot_map-answer.ensures)
-    (alone _ c.requires.0 c.write_answer.ensures)
+    tells a.self.now c.requires.ready
+    (subst (λ (xs : List Area). Gives (boot_call xs) a.self.now.allocator a.words.now (answered_with c.boot_map-answer.result c.boot_map-answer.new.a) a.words.now) c.as_slice.ensures.areas c.boot_map-answer.ensures)
+    (alone _ c.requires.empty c.write_answer.ensures)

@@ -5,9 +5,9 @@ use Rattle.bench_answers.proofs.Replying.{taken, full, alone}
 use Rattle.bench_answers.proofs.Bench.collect.Goals as goal
 
 pub returns-in-Ok : goal.returns-in-Ok
-returns-in-Ok c =
+returns-in-Ok g c =
     taken c.args.self.now c.args.area c.collect.ensures.few c.in-Ok.ensures.under c.in-Ok.ensures.ok (search rules)
 
 pub returns-in-Err : goal.returns-in-Err
-returns-in-Err c =
-    full c.args.self.now c.args.area c.collect.ensures.few c.in-Err.ensures.full c.in-Err.ensures.err (alone bad_line c.requires.0 c.put_text.ensures)
+returns-in-Err g c =
+    full c.args.self.now c.args.area c.collect.ensures.few c.in-Err.ensures.full c.in-Err.ensures.err (alone bad_line c.requires.empty c.put_text.ensures)
