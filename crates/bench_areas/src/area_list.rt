@@ -15,16 +15,17 @@ pub struct Areas {
 }
 
 impl Model for Areas {
-    ghost use Rattle.std.specs.Prelude.{◌++◌, ◌-◌, length, take};
-    ghost use Rattle.bench_areas.specs.Listed.{AreaList, ListedIn, blanks, counted, refilled};
+    ghost use Rattle.std.specs.Prelude.{◌++◌, ◌-◌, length, take, replicate};
+    ghost use Rattle.boot_carving.specs.Listed.{ListedIn, counted, refilled};
+    ghost use Rattle.bench_areas.specs.Listed.{AreaList, blank};
 
     ghost Value = { AreaList };
 
     ghost view = { λ l. record { items = take l.len l.areas } };
 
-    ghost invariant = { λ l. ListedIn l.len l.areas };
+    ghost invariant = { λ l. ListedIn 128 blank l.len l.areas };
 
-    ghost inverse = { λ v. record { areas = v.items ++ blanks (128 - length v.items); len = length v.items } };
+    ghost inverse = { λ v. record { areas = v.items ++ replicate (128 - length v.items) blank; len = length v.items } };
 
     ghost inverse_ok = { λ l h i. record {
       areas = refilled h i;

@@ -1,20 +1,19 @@
--- A list of ranges in an array: one more goes in at the end.
-use Rattle.std.proofs.Common.{◌≡◌, ℕ, ◌+◌, ◌-◌, ◌<◌, List, ◌++◌, length, take, drop, slice_set, length-set, drop-set-lt, drop-drop, take_at, sym, ap, ◌∙◌, arith}
-use Rattle.memory_structs.specs.Range.{empty}
+-- A list in an array: one more goes in at the end.
+use Rattle.std.proofs.Common.{◌≡◌, ℕ, ◌+◌, ◌-◌, ◌<◌, List, ◌++◌, length, take, drop, replicate, slice_set, length-set, drop-set-lt, drop-drop, take_at, sym, ap, ◌∙◌, arith}
 use Rattle.memory_structs.specs.declared.range.FrameRange.{FrameRange}
 use Rattle.std.proofs.lemmas.List.{drop-replicate}
-use Rattle.boot_carving.specs.Listed.{ListedIn, empties}
+use Rattle.boot_carving.specs.Listed.{ListedIn}
 
-pub one_more : {len : ℕ} {ranges : List FrameRange} (x : FrameRange) → ListedIn len ranges → len < 32 → ListedIn (len + 1) (slice_set ranges len x)
-one_more {len} {ranges} x h room = record {
-  sized = length-set ranges len x ∙ h.sized;
+pub one_more : {A : Type 0} {size : ℕ} {blank : A} {len : ℕ} {places : List A} (x : A) → ListedIn size blank len places → len < size → ListedIn size blank (len + 1) (slice_set places len x)
+one_more {A} {size} {blank} {len} {places} x h room = record {
+  sized = length-set places len x ∙ h.sized;
   few = omega arith;
   rest =
-      drop-set-lt (len + 1) ranges len x (omega arith)
-      ∙ sym (drop-drop 1 len ranges)
+      drop-set-lt (len + 1) places len x (omega arith)
+      ∙ sym (drop-drop 1 len places)
       ∙ ap (drop 1) h.rest
-      ∙ drop-replicate 1 (32 - len) empty
-      ∙ ap empties (omega arith);
+      ∙ drop-replicate 1 (size - len) blank
+      ∙ ap (λ (n : ℕ). replicate n blank) (omega arith);
 }
 
 -- a full list is the first 32 of it and what has no place

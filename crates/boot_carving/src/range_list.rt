@@ -15,16 +15,17 @@ pub struct RangeList {
 }
 
 impl Model for RangeList {
-    ghost use Rattle.std.specs.Prelude.{◌++◌, ◌-◌, length, take};
-    ghost use Rattle.boot_carving.specs.Listed.{Ranges, ListedIn, empties, counted, refilled};
+    ghost use Rattle.std.specs.Prelude.{◌++◌, ◌-◌, length, take, replicate};
+    ghost use Rattle.memory_structs.specs.Range.{empty};
+    ghost use Rattle.boot_carving.specs.Listed.{Ranges, ListedIn, counted, refilled};
 
     ghost Value = { Ranges };
 
     ghost view = { λ l. record { items = take l.len l.ranges } };
 
-    ghost invariant = { λ l. ListedIn l.len l.ranges };
+    ghost invariant = { λ l. ListedIn 32 empty l.len l.ranges };
 
-    ghost inverse = { λ v. record { ranges = v.items ++ empties (32 - length v.items); len = length v.items } };
+    ghost inverse = { λ v. record { ranges = v.items ++ replicate (32 - length v.items) empty; len = length v.items } };
 
     ghost inverse_ok = { λ l h i. record {
       ranges = refilled h i;

@@ -1,7 +1,8 @@
 -- `push`: the places after the new area stay blank.
 use Rattle.std.proofs.Common.{ℕ, ◌<◌, length, sym, subst}
-use Rattle.bench_areas.specs.Listed.{AreaList, counted}
-use Rattle.bench_areas.proofs.Listing.{one_more}
+use Rattle.boot_carving.specs.Listed.{counted}
+use Rattle.boot_carving.proofs.Listing.{one_more}
+use Rattle.bench_areas.specs.Listed.{AreaList}
 use Rattle.bench_areas.proofs.area_list.Areas.push.Goals as goal
 
 pub invariant_of-self : goal.invariant_of-self
